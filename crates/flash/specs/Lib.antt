@@ -1,0 +1,5 @@
+pub mod Geometry
+pub mod Meaning
+pub mod Runs
+pub mod Refusals
+pub mod Laws
