@@ -1,6 +1,6 @@
 -- The sizes of a flash array, and where a sector's words stand in their page.
 use mathlib.Core.Bool.{cond, _&&_}
-use Prim.Native.Nat.{ℕ, _+_, _*_}
+use Prim.Native.Nat.{ℕ, _+_, _*_, _%_, _^_}
 use lib.Dec.{ltb}
 use Rattle.std.specs.declared.option.Option.{Option}
 use Rattle.std.specs.declared.option.Option.the-variants.{Some, None}
@@ -24,6 +24,10 @@ blockWords = blockPages * pageWords
 -- a word with every bit set, as an erase leaves it
 abbrev pub blankWord : ℕ
 blankWord = 0xFFFF
+
+-- the 16 bits of a word: what a list of a caller's words holds, since they have no more
+abbrev pub bits16 : ℕ → ℕ
+bits16 x = x % 2 ^ 16
 
 -- where main word i of sector s stands in its page
 abbrev pub mainWord : ℕ → ℕ → Option ℕ

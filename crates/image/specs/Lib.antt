@@ -1,0 +1,5 @@
+pub mod Layout
+pub mod Checks
+pub mod Contents
+pub mod Bounds
+pub mod Held
