@@ -4,7 +4,6 @@ ghost use Prim.Native.Nat.{ℕ, _^_, _<_, _≤_};
 ghost use Rattle.flash.specs.Geometry.{maxBlocks, mainWord, spareWord};
 ghost use Rattle.flash.specs.Meaning.{Meaning, wordAt, outcomeOf, programmable, afterProgram, erasable, afterErase};
 ghost use Rattle.flash.specs.Runs.{filled};
-ghost use Rattle.flash.specs.Laws.{Array-rules};
 
 // The most blocks that an array has.
 pub const MAX_BLOCKS: usize = 256;
@@ -62,14 +61,22 @@ pub trait Array {
 pub fn main_word(sector: usize, i: usize) -> Option<usize>
     ensures { λ r. ⌜ r ≡ mainWord sector i ⌝ }
 {
-    if sector < 2 && i < 256 { Some(256 * sector + i) } else { None }
+    if sector < 2 && i < 256 {
+        Some(256 * sector + i)
+    } else {
+        None
+    }
 }
 
 // Where spare word i of a sector stands in its page.
 pub fn spare_word(sector: usize, i: usize) -> Option<usize>
     ensures { λ r. ⌜ r ≡ spareWord sector i ⌝ }
 {
-    if sector < 2 && i < 8 { Some(512 + (8 * sector + i)) } else { None }
+    if sector < 2 && i < 8 {
+        Some(512 + (8 * sector + i))
+    } else {
+        None
+    }
 }
 
 // Makes n items from `start` on equal to `item`, as far as there are any.
@@ -79,11 +86,4 @@ pub fn fill<T: Copy>(items: &mut [T], start: usize, n: usize, item: T)
     for i in 0..n.min(items.len().saturating_sub(start)) {
         items[start + i] = item;
     }
-}
-
-// The array's rules hold of what the contracts above say.
-pub fn array_rules() -> bool
-    ensures { λ _. ⌜ Array-rules ⌝ }
-{
-    true
 }

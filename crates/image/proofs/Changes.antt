@@ -42,11 +42,11 @@ place-in ws wn b p w t =
 pub held-is : (ws wn : List ℕ) (b p w : ℕ) → wordHeld ws wn b p w < 2 ^ 16 → wordHeld ws wn b p w ≡ wordAt (imageMeaning ws wn) b p w
 held-is ws wn b p w h = ⊎-elim
     (λ (t : inRange (imageMeaning ws wn) b p w ≡ true).
-      let e = getD-default ws (place b p w) 0 blankWord (place-in ws wn b p w t) in
-      let s = cond-true (inRange (imageMeaning ws wn) b p w) (getD ws (place b p w) 0) blankWord t in
-      let m : getD ws (place b p w) 0 % 2 ^ 16 ≡ getD ws (place b p w) 0 = omega arith in
-      let n = ap bits16 e in
-      grind (arith, tells))
+    let e = getD-default ws (place b p w) 0 blankWord (place-in ws wn b p w t) in
+    let s = cond-true (inRange (imageMeaning ws wn) b p w) (getD ws (place b p w) 0) blankWord t in
+    let m : getD ws (place b p w) 0 % 2 ^ 16 ≡ getD ws (place b p w) 0 = omega arith in
+    let n = ap bits16 e in
+    grind (arith, tells))
     (λ (t : inRange (imageMeaning ws wn) b p w ≡ false). grind (arith, tells))
     (cases-bool (inRange (imageMeaning ws wn) b p w))
 
@@ -67,12 +67,12 @@ module _ (ws wn : List ℕ) (b p w v : ℕ) (h : v < 2 ^ 16) (t : programmable (
       let taken = t in
       ⊎-elim
       (λ (e : place b′ p′ w′ ≡ at).
-        let new = ap (λ k. bits16 (getD (set ws at x) k blankWord)) e ∙ ap bits16 here ∙ bits in
-        let old = ap (λ k. bits16 (getD ws k blankWord)) e in
-        grind (arith, tells))
+      let new = ap (λ k. bits16 (getD (set ws at x) k blankWord)) e ∙ ap bits16 here ∙ bits in
+      let old = ap (λ k. bits16 (getD ws k blankWord)) e in
+      grind (arith, tells))
       (λ (ne : place b′ p′ w′ ≡ at → ⊥).
-        let other = ap bits16 (getD-set-other ws at (place b′ p′ w′) x blankWord ne) in
-        grind (arith, tells))
+      let other = ap bits16 (getD-set-other ws at (place b′ p′ w′) x blankWord ne) in
+      grind (arith, tells))
       (cases-eq (place b′ p′ w′) at)
 
   program-done : imageMeaning (set ws at x) wn ≡ programmed (imageMeaning ws wn) b p w v

@@ -13,17 +13,10 @@ use Rattle.sheets.specs.declared.Sheet.{Sheet}
 use Rattle.sheets.specs.Pages.{noSheet, isOf, firstOf}
 use Rattle.sheets.specs.Contents.{unmarked}
 
--- a walk that has come to sheet i
-module _ (ss : List Sheet) (i b p : ℕ) (within : i < length ss) (inv : i + firstOf b p (drop i ss) ≡ firstOf b p ss) where
-  step : firstOf b p (drop i ss) ≡ cond (isOf b p (getD ss i noSheet)) 0 (suc (firstOf b p (drop (i + 1) ss)))
-  unfolding firstOf
-  step = at-drop-more (firstOf b p) ss i noSheet within
-
-  pub found-here : isOf b p (getD ss i noSheet) ≡ true → i ≡ firstOf b p ss
-  found-here e = let h = step ∙ cond-true (isOf b p (getD ss i noSheet)) 0 (suc (firstOf b p (drop (i + 1) ss))) e in omega arith
-
-  pub found-later : isOf b p (getD ss i noSheet) ≡ false → i + 1 + firstOf b p (drop (i + 1) ss) ≡ firstOf b p ss
-  found-later e = let h = step ∙ cond-false (isOf b p (getD ss i noSheet)) 0 (suc (firstOf b p (drop (i + 1) ss))) e in omega arith
+-- what is left of a list begins with the sheet that the walk has come to
+pub first-step : (ss : List Sheet) (k b p : ℕ) → k < length ss → firstOf b p (drop k ss) ≡ cond (isOf b p (getD ss k noSheet)) 0 (suc (firstOf b p (drop (k + 1) ss)))
+unfolding firstOf
+first-step ss k b p within = at-drop-more (firstOf b p) ss k noSheet within
 
 -- the sheet that is found is of the page
 pub first-is-of : (b p : ℕ) (ss : List Sheet) → firstOf b p ss < length ss → isOf b p (getD ss (firstOf b p ss) noSheet) ≡ true
@@ -31,11 +24,11 @@ unfolding firstOf
 first-is-of b p [] h = absurd (omega arith)
 first-is-of b p (s ∷ ss) h = ⊎-elim
     (λ (e : isOf b p s ≡ true).
-      let here : firstOf b p (s ∷ ss) ≡ 0 = cond-true (isOf b p s) 0 (suc (firstOf b p ss)) e in
-      subst (λ (k : ℕ). isOf b p (getD (s ∷ ss) k noSheet) ≡ true) (sym here) e)
+    let here : firstOf b p (s ∷ ss) ≡ 0 = cond-true (isOf b p s) 0 (suc (firstOf b p ss)) e in
+    subst (λ (k : ℕ). isOf b p (getD (s ∷ ss) k noSheet) ≡ true) (sym here) e)
     (λ (e : isOf b p s ≡ false).
-      let later : firstOf b p (s ∷ ss) ≡ suc (firstOf b p ss) = cond-false (isOf b p s) 0 (suc (firstOf b p ss)) e in
-      subst (λ (k : ℕ). isOf b p (getD (s ∷ ss) k noSheet) ≡ true) (sym later) (first-is-of b p ss (omega arith)))
+    let later : firstOf b p (s ∷ ss) ≡ suc (firstOf b p ss) = cond-false (isOf b p s) 0 (suc (firstOf b p ss)) e in
+    subst (λ (k : ℕ). isOf b p (getD (s ∷ ss) k noSheet) ≡ true) (sym later) (first-is-of b p ss (omega arith)))
     (cases-bool (isOf b p s))
 
 -- a sheet is the first of one page only

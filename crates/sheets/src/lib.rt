@@ -2,20 +2,21 @@
 ghost use mathlib.Core.Path.{_≡_};
 ghost use mathlib.Core.Bool.{cond, true, false};
 ghost use mathlib.Core.List.{map, []};
-ghost use Prim.Native.Nat.{_+_, _*_, _<_, _≤_};
+ghost use Prim.Native.Nat.{ℕ, suc, _+_, _*_, _<_, _≤_};
 ghost use lib.Dec.{eqb};
-ghost use lib.ListN.{length, take};
+ghost use lib.ListN.{length, set, take, drop};
 ghost use denote.Ref.{now, name};
 ghost use Rattle.std.specs.declared.option.Option.the-variants.{Some, None};
+ghost use Rattle.std.specs.Results.{isOk};
 ghost use Rattle.flash.specs.Geometry.{blockPages, pageWords};
 ghost use Rattle.flash.specs.Meaning.{wordAt, outcomeOf, programmable, afterProgram, erasable, afterErase};
 ghost use Rattle.flash.specs.Refusals.{refusal};
 ghost use Rattle.sheets.specs.Pages.{isOf, firstOf, sheetOf, mark};
-ghost use Rattle.sheets.specs.Checks.{numberOf, listsFit, goodSheets, marked, cleared, goodNow, walked, sheetCheck, scratchAfter};
+ghost use Rattle.sheets.specs.Checks.{numberOf, listsFit, byteOf, goodSheets, marked, cleared, goodNow, walked, sheetCheck, scratchAfter};
 ghost use Rattle.sheets.specs.Contents.{blocks, wordHeld, opened, wordStored, sheetsProgrammed, wordsProgrammed, unmarked as withoutMark, sheetsErased};
 ghost use Rattle.sheets.specs.Bounds.{capped, narrow};
 ghost use Rattle.sheets.specs.Held.{meant};
-ghost use Rattle.sheets.specs.Laws.{Pages-owned};
+ghost use Rattle.sheets.specs.Laws.{Owns-page};
 use flash::Array;
 use flash::BLANK;
 use flash::BLOCK_PAGES;
@@ -66,12 +67,20 @@ fn is_of(s: Sheet, block: usize, page: usize) -> bool
     s.block as usize == block && s.page as usize == page
 }
 
+// Whether sheet k is of this page: of the sheets from k on it is then the first.
+fn starts_at(sheets: &[Sheet], k: usize, block: usize, page: usize) -> bool
+    requires { ⌜ k < length (now sheets) ⌝ }
+    ensures { λ r. ⌜ firstOf block page (drop k (now (sheets .entry))) ≡ cond r 0 (suc (firstOf block page (drop (k + 1) (now (sheets .entry))))) ⌝ }
+{
+    is_of(sheets[k], block, page)
+}
+
 // The first sheet of a page.
 fn find(sheets: &[Sheet], block: usize, page: usize) -> Option<usize>
     ensures { λ r. ⌜ r ≡ sheetOf block page (now (sheets .entry)) ⌝ }
 {
-    for (k, s) in sheets.iter().enumerate() {
-        if is_of(*s, block, page) {
+    for k in 0..sheets.len() {
+        if starts_at(sheets, k, block, page) {
             return Some(k);
         }
     }
@@ -223,5 +232,120 @@ impl<'a> Sheets<'a> {
         } else {
             Outcome::Failed
         }
+    }
+}
+
+// Beside the trait's clauses, in terms of what the array holds, each method says what becomes of the caller's sheets and words.
+pub impl Array for Sheets<'_> as SheetArray {
+    ghost meaning = { meant };
+
+    ghost capped = { λ s. capped (s .count) (now (s .sheets)) (now (s .words)) };
+
+    ghost narrow = { λ s. narrow (s .count) (now (s .sheets)) (now (s .words)) };
+
+    fn count(&self) -> usize {
+        self.blocks()
+    }
+
+    fn read(&mut self, block: usize, page: usize, word: usize) -> u16
+        ensures value { λ r. ⌜ r ≡ wordAt (meant (now (self .entry))) block page word ⌝ }
+        ensures same { λ _. ⌜ meant (now (self .exit)) ≡ meant (now (self .entry)) ⌝ }
+        ensures size { λ _. ⌜ now (self .exit) .count ≡ now (self .entry) .count ⌝ }
+        ensures sheets { λ _. ⌜ now (now (self .exit) .sheets) ≡ now (now (self .entry) .sheets) ⌝ }
+        ensures words { λ _. ⌜ now (now (self .exit) .words) ≡ now (now (self .entry) .words) ⌝ }
+        ensures lender { λ _. ⌜ name (now (self .exit) .sheets) ≡ name (now (self .entry) .sheets) ⌝ }
+        ensures owner { λ _. ⌜ name (now (self .exit) .words) ≡ name (now (self .entry) .words) ⌝ }
+    {
+        self.held(block, page, word)
+    }
+
+    fn program(&mut self, block: usize, page: usize, word: usize, bits: u16) -> Outcome
+        ensures value { λ r. ⌜ r ≡ outcomeOf (programmable (meant (now (self .entry))) block page word) ⌝ }
+        ensures after { λ _. ⌜ meant (now (self .exit)) ≡ afterProgram (meant (now (self .entry))) block page word bits ⌝ }
+        ensures size { λ _. ⌜ now (self .exit) .count ≡ now (self .entry) .count ⌝ }
+        ensures sheets { λ _. ⌜ now (now (self .exit) .sheets) ≡ sheetsProgrammed (now (self .entry) .count) (now (now (self .entry) .sheets)) (now (now (self .entry) .words)) block page word ⌝ }
+        ensures words { λ _. ⌜ now (now (self .exit) .words) ≡ wordsProgrammed (now (self .entry) .count) (now (now (self .entry) .sheets)) (now (now (self .entry) .words)) block page word bits ⌝ }
+        ensures lender { λ _. ⌜ name (now (self .exit) .sheets) ≡ name (now (self .entry) .sheets) ⌝ }
+        ensures owner { λ _. ⌜ name (now (self .exit) .words) ≡ name (now (self .entry) .words) ⌝ }
+    {
+        self.and_word(block, page, word, bits)
+    }
+
+    fn erase(&mut self, block: usize) -> Outcome
+        ensures value { λ r. ⌜ r ≡ outcomeOf (erasable (meant (now (self .entry))) block) ⌝ }
+        ensures after { λ _. ⌜ meant (now (self .exit)) ≡ afterErase (meant (now (self .entry))) block ⌝ }
+        ensures size { λ _. ⌜ now (self .exit) .count ≡ now (self .entry) .count ⌝ }
+        ensures sheets { λ _. ⌜ now (now (self .exit) .sheets) ≡ sheetsErased (now (self .entry) .count) (now (now (self .entry) .sheets)) (now (now (self .entry) .words)) block ⌝ }
+        ensures words { λ _. ⌜ now (now (self .exit) .words) ≡ now (now (self .entry) .words) ⌝ }
+        ensures lender { λ _. ⌜ name (now (self .exit) .sheets) ≡ name (now (self .entry) .sheets) ⌝ }
+        ensures owner { λ _. ⌜ name (now (self .exit) .words) ≡ name (now (self .entry) .words) ⌝ }
+    {
+        self.blank(block)
+    }
+}
+
+// Whether the sheet's page is in the array and not marked in the scratch.
+fn is_good(s: Sheet, count: usize, scratch: &[u8]) -> bool
+    requires { ⌜ count * blockPages ≤ length (now scratch) ⌝ }
+    ensures { λ r. ⌜ r ≡ goodNow count (now (scratch .entry)) s ⌝ }
+{
+    let block = s.block as usize;
+    let page = s.page as usize;
+    block < count && page < BLOCK_PAGES && scratch[block * BLOCK_PAGES + page] == 0
+}
+
+// Marks the sheet's page in the scratch.
+fn mark_page(s: Sheet, scratch: &mut [u8])
+    requires { ⌜ byteOf s < length (now scratch) ⌝ }
+    ensures { λ _. ⌜ now (scratch .exit) ≡ set (now (scratch .entry)) (byteOf s) 1 ⌝ }
+{
+    scratch[s.block as usize * BLOCK_PAGES + s.page as usize] = 1;
+}
+
+// Marks the page of each sheet up to the first that is not good, and says whether all are.
+fn mark_pages(count: usize, sheets: &[Sheet], scratch: &mut [u8]) -> bool
+    requires { ⌜ count * blockPages ≤ length (now scratch) ⌝ }
+    ensures value { λ r. ⌜ r ≡ walked count (now (sheets .entry)) (now (scratch .entry)) .0 ⌝ }
+    ensures scratch { λ _. ⌜ now (scratch .exit) ≡ walked count (now (sheets .entry)) (now (scratch .entry)) .1 ⌝ }
+{
+    for s in sheets {
+        if !is_good(*s, count, scratch) {
+            return false;
+        }
+        mark_page(*s, scratch);
+    }
+    true
+}
+
+// The same in a scratch that is cleared first: whether each sheet has a page of its own.
+fn check_pages(count: usize, sheets: &[Sheet], scratch: &mut [u8]) -> bool
+    requires { ⌜ count * blockPages ≤ length (now scratch) ⌝ }
+    ensures value { λ r. ⌜ r ≡ eqb (goodSheets count [] (now (sheets .entry))) (length (now (sheets .entry))) ⌝ }
+    ensures scratch { λ _. ⌜ now (scratch .exit) ≡ marked (take (goodSheets count [] (now (sheets .entry))) (now (sheets .entry))) (cleared count (now (scratch .entry))) ⌝ }
+    ensures owned { λ r. ⌜ (r ≡ true → (k : ℕ) → k < length (now (sheets .entry)) → Owns-page count (now (sheets .entry)) k) ⌝ }
+{
+    fill(scratch, 0, count * BLOCK_PAGES, 0);
+    mark_pages(count, sheets, scratch)
+}
+
+// Whether the sheets are a sound list for `count` blocks: then each is the one that its page reads from. It works in a scratch of 64 bytes a block.
+pub fn check(
+    count: usize,
+    sheets: &[Sheet],
+    words: &[u16],
+    scratch: &mut [u8],
+) -> Result<(), SheetFault>
+    ensures value { λ r. ⌜ refusal numberOf r ≡ sheetCheck count (now (sheets .entry)) (now (words .entry)) (now (scratch .entry)) ⌝ }
+    ensures scratch { λ _. ⌜ now (scratch .exit) ≡ scratchAfter count (now (sheets .entry)) (now (words .entry)) (now (scratch .entry)) ⌝ }
+    ensures owned { λ r. ⌜ (isOk r ≡ true → (k : ℕ) → k < length (now (sheets .entry)) → Owns-page count (now (sheets .entry)) k) ⌝ }
+{
+    if !lists_fit(count, sheets, words) {
+        Err(SheetFault::Lists)
+    } else if scratch.len() < count * BLOCK_PAGES {
+        Err(SheetFault::Scratch)
+    } else if check_pages(count, sheets, scratch) {
+        Ok(())
+    } else {
+        Err(SheetFault::Page)
     }
 }
