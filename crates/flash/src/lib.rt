@@ -1,9 +1,10 @@
 // What a flash array is: the trait that every array implements, the sizes of its parts, and what arrays share.
 ghost use mathlib.Core.Path.{_≡_};
-ghost use Prim.Native.Nat.{ℕ, _^_, _<_, _≤_};
+ghost use Prim.Native.Nat.{ℕ, _-_, _^_, _<_, _≤_};
+ghost use lib.ListN.{length};
 ghost use Rattle.flash.specs.Geometry.{maxBlocks, mainWord, spareWord};
 ghost use Rattle.flash.specs.Meaning.{Meaning, wordAt, outcomeOf, programmable, afterProgram, erasable, afterErase};
-ghost use Rattle.flash.specs.Runs.{filled};
+ghost use Rattle.flash.specs.Runs.{run, filled};
 
 // The most blocks that an array has.
 pub const MAX_BLOCKS: usize = 256;
@@ -79,11 +80,20 @@ pub fn spare_word(sector: usize, i: usize) -> Option<usize>
     }
 }
 
+// Makes n items from `start` on equal to `item`, where there are so many.
+fn set_run<T: Copy>(items: &mut [T], start: usize, n: usize, item: T)
+    requires { ⌜ n ≤ length (now items) - start ⌝ }
+    ensures { λ _. ⌜ now (items .exit) ≡ run item start n (now (items .entry)) ⌝ }
+{
+    for i in 0..n {
+        items[start + i] = item;
+    }
+}
+
 // Makes n items from `start` on equal to `item`, as far as there are any.
 pub fn fill<T: Copy>(items: &mut [T], start: usize, n: usize, item: T)
     ensures { λ _. ⌜ now (items .exit) ≡ filled item start n (now (items .entry)) ⌝ }
 {
-    for i in 0..n.min(items.len().saturating_sub(start)) {
-        items[start + i] = item;
-    }
+    let room = items.len().saturating_sub(start);
+    set_run(items, start, n.min(room), item);
 }

@@ -3,7 +3,7 @@ use native.Mathlib.Omega.{arith}
 use lib.ListN.{set}
 use Prim.Native.Nat.{_+_}
 use Rattle.flash.proofs.Runs.{run-none, run-more}
-use Rattle.flash.proofs.fill.Needs as need
+use Rattle.flash.proofs.set_run.Needs as need
 
 pub loop-i-holds : need.loop-i-holds
 loop-i-holds g c = run-none (c .args .item) (c .args .start) (c .args .items .now)
