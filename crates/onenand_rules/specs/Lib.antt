@@ -1,0 +1,10 @@
+pub mod Commands
+pub mod Plans
+pub mod Checks
+pub mod State
+pub mod Calls
+pub mod Reads
+pub mod Writes
+pub mod Ticks
+pub mod Resets
+pub mod Steps
