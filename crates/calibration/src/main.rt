@@ -1,143 +1,232 @@
-// Takes a calibration table through a flash array and prints what programming and erasing do to it: in an image, then in sheets.
+// A rehearsal of one question. January's calibration stands in a block that is made lock-tight. An upgrade programs and
+// erases other blocks, tries the protected one, and the mains fail inside a program. Is the calibration as it was?
 ghost use mathlib.Core.Path.{_≡_};
-ghost use mathlib.Core.List.{[], _∷_};
+ghost use mathlib.Core.Bool.{_&&_};
+ghost use mathlib.Core.List.{_++_};
+ghost use lib.Dec.{eqb};
+ghost use lib.ListN.{length, replicate};
+ghost use Rattle.std.specs.Of.Vec.{vec-items};
 ghost use Rattle.std.specs.Vec.{made};
-ghost use Rattle.calibration.specs.Tables.{stored, fourWords, told, toured};
+ghost use Rattle.onenand_rules.specs.declared.calls.Call.the-variants.{Tick as tickCall};
+ghost use Rattle.onenand_rules.specs.State.{stateFor};
+ghost use Rattle.onenand_rules.specs.Steps.{after};
+ghost use Rattle.calibration.specs.Words.{isSame, sameWords};
+ghost use Rattle.calibration.specs.Orders.{order};
 use flash::Array;
 use flash::BLANK;
 use flash::BLOCK_WORDS;
-use flash::Outcome;
-use flash::PAGE_WORDS;
 use image::Image;
 use image::ImageArray;
-use sheets::Sheet;
-use sheets::SheetArray;
-use sheets::Sheets;
+use onenand::Chip;
+use onenand_play::play;
+use onenand_rules::calls::Answer;
+use onenand_rules::calls::Call;
+use onenand_rules::calls::Progress;
+use std::alloc::AllocError;
+use std::alloc::Global;
 use std::error::AnyError;
-use std::io;
 
-// Four coefficients of a pump, and what a later program puts over them.
-const TABLE: [u16; 4] = [0x1F40, 0x2EE0, 0x3E80, 0x4E20];
+// January's coefficients, and March's, go into the buffer sector D0_0, which F200h chooses.
+const JANUARY: [Call; 9] = [
+    Call::Write(0x0200, 0x1F40),
+    Call::Write(0x0201, 0x2EE0),
+    Call::Write(0x0202, 0x3E80),
+    Call::Write(0x0203, 0x4E20),
+    Call::Write(0x0204, 0x00C7),
+    Call::Write(0x0205, 0x01A4),
+    Call::Write(0x0206, 0x7FFF),
+    Call::Write(0x0207, 0x0001),
+    Call::Write(0xF200, 0x0801),
+];
 
-const OVER: [u16; 4] = [0x1FFF, 0xFF0F, 0x0000, 0xFFFF];
+const MARCH: [Call; 9] = [
+    Call::Write(0x0200, 0x1F41),
+    Call::Write(0x0201, 0x2EE2),
+    Call::Write(0x0202, 0x3E84),
+    Call::Write(0x0203, 0x4E28),
+    Call::Write(0x0204, 0x00C8),
+    Call::Write(0x0205, 0x01A6),
+    Call::Write(0x0206, 0x7FFE),
+    Call::Write(0x0207, 0x0002),
+    Call::Write(0xF200, 0x0801),
+];
 
-// Programs the words of a table from the first word of a page on.
-fn store<D: Array>(array: &mut D, block: usize, page: usize, words: &[u16])
-    ensures { λ _. ⌜ meaning (now (array .exit)) ≡ stored (meaning (now (array .entry))) block page 0 (now (words .entry)) ⌝ }
+// The first words of that sector are read.
+const TABLE: [Call; 8] = [
+    Call::Read(0x0200),
+    Call::Read(0x0201),
+    Call::Read(0x0202),
+    Call::Read(0x0203),
+    Call::Read(0x0204),
+    Call::Read(0x0205),
+    Call::Read(0x0206),
+    Call::Read(0x0207),
+];
+
+// Adds n ticks to a list of calls.
+fn add_ticks(calls: &mut Vec<Call>, n: usize) -> Result<(), AllocError>
+    ensures { λ r. ⌜ made r (λ _. vec-items (now (calls .exit)) ≡ vec-items (now (calls .entry)) ++ replicate n tickCall) ⌝ }
 {
-    for (i, w) in words.iter().enumerate() {
-        let _ = array.program(block, page, i, *w);
+    for _i in 0..n {
+        calls.push(Call::Tick)?;
+    }
+    Ok(())
+}
+
+// Some first calls, and then a command with its ticks.
+fn command(heap: Global, first: &[Call], code: u16, ticks: usize) -> Result<Vec<Call>, AllocError>
+    ensures { λ r. ⌜ made r (λ v. vec-items v ≡ now (first .entry) ++ order code ticks) ⌝ }
+{
+    let mut calls = Vec::from_slice(heap, first)?;
+    calls.push(Call::Write(0xF241, 0x0000))?;
+    calls.push(Call::Write(0xF220, code))?;
+    add_ticks(&mut calls, ticks)?;
+    calls.push(Call::Read(0xF240))?;
+    Ok(calls)
+}
+
+// Whether two answers are the same word.
+fn is_same(a: Answer, b: Answer) -> bool
+    ensures { λ r. ⌜ r ≡ isSame a b ⌝ }
+{
+    match (a, b) {
+        (Answer::Word(v), Answer::Word(w)) => v == w,
+        _ => false,
     }
 }
 
-// The first four words of a page.
-fn read_four<D: Array>(array: &mut D, block: usize, page: usize) -> [u16; 4]
-    ensures value { λ r. ⌜ r ≡ fourWords (meaning (now (array .entry))) block page ⌝ }
-    ensures same { λ _. ⌜ meaning (now (array .exit)) ≡ meaning (now (array .entry)) ⌝ }
+// Whether two lists of answers are the same words.
+fn are_same(a: &[Answer], b: &[Answer]) -> bool
+    ensures { λ r. ⌜ r ≡ (eqb (length (now (a .entry))) (length (now (b .entry))) && sameWords (now (a .entry)) (now (b .entry)) (length (now (b .entry)))) ⌝ }
 {
-    let a = array.read(block, page, 0);
-    let b = array.read(block, page, 1);
-    let c = array.read(block, page, 2);
-    let d = array.read(block, page, 3);
-    [a, b, c, d]
-}
-
-// How an outcome is told.
-fn tell(o: Outcome) -> &'static str
-    ensures { λ r. ⌜ now r ≡ told o ⌝ }
-{
-    match o {
-        Outcome::Done => "done",
-        Outcome::Failed => "failed",
+    if a.len() != b.len() {
+        return false;
     }
+    for k in 0..b.len() {
+        if !is_same(a[k], b[k]) {
+            return false;
+        }
+    }
+    true
 }
 
-// Prints what was done, and the first four words of a page after it; the array stays as it is.
-fn print_page<D: Array>(
+// Prints one answer.
+fn print_answer(rt: &LibcRuntime, answer: Answer) -> Result<(), AnyError> {
+    match answer {
+        Answer::Word(w) => print!(rt, " {w:04X}")?,
+        Answer::Done => print!(rt, " done")?,
+        Answer::Ticked(Progress::Running) => print!(rt, " 1")?,
+        Answer::Ticked(Progress::Ended) => print!(rt, " 0")?,
+        Answer::Refused(refusal) => print!(rt, " refused with {}", refusal.number())?,
+    }
+    Ok(())
+}
+
+// Puts calls to the chip, and prints what the last of them answered.
+fn stage<D: Array>(
     rt: &LibcRuntime,
+    chip: &mut Chip<D>,
     what: &str,
-    array: &mut D,
-    block: usize,
-    page: usize,
-) -> io::Result<()>
-    ensures { λ _. ⌜ meaning (now (array .exit)) ≡ meaning (now (array .entry)) ⌝ }
+    calls: &[Call],
+) -> Result<(), AnyError>
+    ensures { λ r. ⌜ made r (λ _. stateFor (now (chip .exit) .core) (meaning (now (chip .exit) .array)) ≡ after (stateFor (now (chip .entry) .core) (meaning (now (chip .entry) .array))) (now (calls .entry))) ⌝ }
 {
-    let t = read_four(array, block, page);
-    println!(
+    let answers = play(chip, rt.alloc(), calls)?;
+    print!(rt, "  {what}:")?;
+    if let Some(answer) = answers.as_slice().last() {
+        print_answer(rt, *answer)?;
+    }
+    println!(rt, "")?;
+    Ok(())
+}
+
+// Loads the first sector of page 0 of a block, and prints and gives back its first words.
+fn look<D: Array>(
+    rt: &LibcRuntime,
+    chip: &mut Chip<D>,
+    block: u16,
+) -> Result<Vec<Answer>, AnyError> {
+    let heap = rt.alloc();
+    let first = [Call::Write(0xF100, block), Call::Write(0xF200, 0x0801)];
+    let load = command(heap, &first, 0x0000, 264)?;
+    let _ = play(chip, heap, load.as_slice())?;
+    let answers = play(chip, heap, &TABLE)?;
+    print!(rt, "  block {block} reads:")?;
+    for answer in answers.as_slice() {
+        print_answer(rt, *answer)?;
+    }
+    println!(rt, "")?;
+    Ok(answers)
+}
+
+// January: the calibration goes into block 1, which is then made lock-tight.
+fn january<D: Array>(rt: &LibcRuntime, chip: &mut Chip<D>) -> Result<(), AnyError> {
+    let heap = rt.alloc();
+    let range = [Call::Write(0xF24C, 1), Call::Write(0xF24D, 1)];
+    let calls = command(heap, &range, 0x0023, 1)?;
+    stage(rt, chip, "unlock block 1, status", calls.as_slice())?;
+    let calls = command(heap, &[Call::Write(0xF100, 1)], 0x0094, 64)?;
+    stage(rt, chip, "erase block 1, status", calls.as_slice())?;
+    let calls = command(heap, &JANUARY, 0x0080, 264)?;
+    stage(rt, chip, "program block 1, status", calls.as_slice())?;
+    let calls = command(heap, &[], 0x002C, 1)?;
+    stage(
         rt,
-        "  {what}: {:04X} {:04X} {:04X} {:04X}",
-        t[0], t[1], t[2], t[3]
+        chip,
+        "make block 1 lock-tight, status",
+        calls.as_slice(),
     )
 }
 
-// Takes two tables through page 4 of block 1. Page `dead_page` of block `dead_block` is dead, and block `beyond` is not there.
-fn tour<D: Array>(
-    rt: &LibcRuntime,
-    array: &mut D,
-    dead_block: usize,
-    dead_page: usize,
-    beyond: usize,
-) -> io::Result<()>
-    ensures { λ r. ⌜ made r (λ _. meaning (now (array .exit)) ≡ toured (meaning (now (array .entry))) 1 4 (0x1F40 ∷ 0x2EE0 ∷ 0x3E80 ∷ 0x4E20 ∷ []) (0x1FFF ∷ 0xFF0F ∷ 0 ∷ 0xFFFF ∷ []) «dead_block» «dead_page» beyond) ⌝ }
-{
-    store(array, 1, 4, &TABLE);
-    print_page(rt, "block 1, page 4, the table stored", array, 1, 4)?;
-    store(array, 1, 4, &OVER);
-    print_page(rt, "1FFF FF0F 0000 FFFF programmed over it", array, 1, 4)?;
-    let dead = tell(array.program(dead_block, dead_page, 0, 0));
-    println!(
-        rt,
-        "  0000 into dead page {dead_page} of block {dead_block}: {dead}"
-    )?;
-    print_page(rt, "the dead page", array, dead_block, dead_page)?;
-    let gone = tell(array.erase(beyond));
-    println!(rt, "  erase of block {beyond}, which is not there: {gone}")?;
-    let erased = tell(array.erase(1));
-    println!(rt, "  erase of block 1: {erased}")?;
-    print_page(rt, "block 1, page 4", array, 1, 4)
+// March: the upgrade changes block 2, and tries block 1.
+fn march<D: Array>(rt: &LibcRuntime, chip: &mut Chip<D>) -> Result<(), AnyError> {
+    let heap = rt.alloc();
+    let range = [Call::Write(0xF24C, 2), Call::Write(0xF24D, 3)];
+    let calls = command(heap, &range, 0x0023, 1)?;
+    stage(rt, chip, "unlock blocks 2 and 3, status", calls.as_slice())?;
+    let calls = command(heap, &[Call::Write(0xF100, 2)], 0x0094, 64)?;
+    stage(rt, chip, "erase block 2, status", calls.as_slice())?;
+    let calls = command(heap, &MARCH, 0x0080, 264)?;
+    stage(rt, chip, "program block 2, status", calls.as_slice())?;
+    let calls = command(heap, &[Call::Write(0xF100, 1)], 0x0080, 1)?;
+    stage(rt, chip, "try to program block 1, status", calls.as_slice())?;
+    let calls = command(heap, &[], 0x0094, 1)?;
+    stage(rt, chip, "try to erase block 1, status", calls.as_slice())?;
+    let range = [Call::Write(0xF24C, 1), Call::Write(0xF24D, 1)];
+    let calls = command(heap, &range, 0x0023, 1)?;
+    stage(rt, chip, "try to unlock block 1, status", calls.as_slice())?;
+    stage(rt, chip, "protection", &[Call::Read(0xF24E)])
 }
 
-// An image of three blocks, the last of them worn.
-fn with_image(rt: &LibcRuntime) -> Result<(), AnyError> {
-    let mut words = vec![in rt.alloc(); BLANK; 3 * BLOCK_WORDS]?;
-    let worn = [0, 0, 1];
-    println!(rt, "An image of 3 blocks; block 2 is worn.")?;
-    match image::check(words.as_slice(), &worn) {
-        Ok(()) => println!(rt, "  check: passed")?,
-        Err(fault) => println!(rt, "  check: refused with {}", fault.number())?,
-    }
-    let mut array = Image::new(words.as_mut_slice(), &worn);
-    tour(rt, &mut array, 2, 0, 3)?;
-    let o = tell(array.erase(2));
-    println!(rt, "  erase of worn block 2: {o}")?;
-    Ok(())
-}
-
-// A sheet array of two blocks, with a sheet for page 4 of block 1 alone.
-fn with_sheets(rt: &LibcRuntime) -> Result<(), AnyError> {
-    let mut words = [0u16; PAGE_WORDS];
-    let mut list = [Sheet {
-        block: 1,
-        page: 4,
-        written: 0,
-    }];
-    let mut scratch = [0u8; 128];
-    println!(rt, "Sheets for 2 blocks; page 4 of block 1 alone is there.")?;
-    match sheets::check(2, &list, &words, &mut scratch) {
-        Ok(()) => println!(rt, "  check: passed")?,
-        Err(fault) => println!(rt, "  check: refused with {}", fault.number())?,
-    }
-    tour(rt, &mut Sheets::new(2, &mut list, &mut words), 1, 5, 2)?;
-    let mark = list[0].written;
-    println!(
+// The mains fail after three ticks of a program of block 3, and come back.
+fn power_cut<D: Array>(rt: &LibcRuntime, chip: &mut Chip<D>) -> Result<(), AnyError> {
+    let calls = command(rt.alloc(), &[Call::Write(0xF100, 3)], 0x0080, 3)?;
+    stage(
         rt,
-        "  the sheet's mark: {mark}; its words stay: {:04X} {:04X} {:04X} {:04X}",
-        words[0], words[1], words[2], words[3]
+        chip,
+        "program block 3, status after 3 ticks",
+        calls.as_slice(),
     )?;
-    Ok(())
+    stage(rt, chip, "the mains fail, and come back", &[Call::Cold])
 }
 
 fn main(rt: LibcRuntime) -> Result<(), AnyError> {
-    with_image(&rt)?;
-    with_sheets(&rt)
+    let mut words = vec![in rt.alloc(); BLANK; 4 * BLOCK_WORDS]?;
+    let worn = [0u8; 4];
+    let array = Image::new(words.as_mut_slice(), &worn);
+    let mut chip = Chip::power_up(array, 0x0004, 0x0000);
+    println!(rt, "January:")?;
+    january(&rt, &mut chip)?;
+    let before = look(&rt, &mut chip, 1)?;
+    println!(rt, "March:")?;
+    march(&rt, &mut chip)?;
+    power_cut(&rt, &mut chip)?;
+    let _ = look(&rt, &mut chip, 3)?;
+    let now = look(&rt, &mut chip, 1)?;
+    if are_same(before.as_slice(), now.as_slice()) {
+        println!(rt, "January's calibration is as it was, word for word.")
+    } else {
+        println!(rt, "January's calibration has changed.")
+    }?;
+    Ok(())
 }

@@ -1,1 +1,7 @@
 pub mod Frames
+pub mod Words
+pub mod Tight
+pub mod Moments
+pub mod Faith
+pub mod Blindness
+pub mod Whole

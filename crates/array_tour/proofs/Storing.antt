@@ -5,7 +5,7 @@ use Prim.Native.Nat.{ℕ, _+_, _<_, _≤_}
 use lib.ListN.{length, getD, drop}
 use Rattle.std.proofs.shelf.Lists.{at-drop-more, at-drop-all}
 use Rattle.flash.specs.Meaning.{Meaning, afterProgram}
-use Rattle.calibration.specs.Tables.{stored}
+use Rattle.array_tour.specs.Tables.{stored}
 
 pub store-more : (m : Meaning) (b p i : ℕ) (vs : List ℕ) → i < length vs → stored (afterProgram m b p i (getD vs i 0)) b p (i + 1) (drop (i + 1) vs) ≡ stored m b p i (drop i vs)
 unfolding stored

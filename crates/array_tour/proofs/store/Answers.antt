@@ -1,9 +1,9 @@
 use mathlib.Core.Path.{sym, ap, _∙_}
 use Prim.Native.Nat.{_+_}
 use lib.ListN.{drop}
-use Rattle.calibration.specs.Tables.{stored}
-use Rattle.calibration.proofs.Storing.{store-more, store-all}
-use Rattle.calibration.proofs.store.Needs as need
+use Rattle.array_tour.specs.Tables.{stored}
+use Rattle.array_tour.proofs.Storing.{store-more, store-all}
+use Rattle.array_tour.proofs.store.Needs as need
 
 pub loop-i-again : need.loop-i-again
 loop-i-again g c =
