@@ -52,7 +52,7 @@ fn register(addr: u16) -> Place
     }
 }
 
-// Where an address leads.
+// Where an address leads: the RAM areas, then the registers, which all stand from F000h on.
 pub fn place_of(addr: u16) -> Place
     ensures { λ r. ⌜ r ≡ placeOf addr ⌝ }
 {
@@ -61,6 +61,7 @@ pub fn place_of(addr: u16) -> Place
         0x0200..=0x05FF => Place::Data(addr - 0x0200),
         0x8000..=0x800F => Place::Boot(512 + (addr - 0x8000)),
         0x8010..=0x802F => Place::Data(1024 + (addr - 0x8010)),
-        _ => register(addr),
+        _ if addr >= 0xF000 => register(addr),
+        _ => Place::Unassigned,
     }
 }
