@@ -1,0 +1,4 @@
+pub mod Ticking
+pub mod Playing
+pub mod Lengths
+pub mod Going

@@ -1,0 +1,5 @@
+pub mod Lines
+pub mod Shapes
+pub mod Grammar
+pub mod Parts
+pub mod Laws
