@@ -112,11 +112,11 @@ unfoldable pub reaches : Moment → List Call → Moment
 reaches t [] = t
 reaches t (c ∷ cs) = reaches (next t c) cs
 
--- a call cuts what is under way, or drops it: an accepted write to F220h, a warm or a cold reset
+-- a call drops what is under way: an accepted 00F0h or 00F3h, a warm or a cold reset
 abbrev pub drops : Call → Reply → Bool
 drops (Read a) r = false
 drops (Write a w) (word v) = false
-drops (Write a w) done = a == 0xF220
+drops (Write a w) done = a == 0xF220 && (w == 0x00F0 || w == 0x00F3)
 drops (Write a w) (tick n) = false
 drops (Write a w) (refused n) = false
 drops Tick r = false

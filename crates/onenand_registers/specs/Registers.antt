@@ -94,13 +94,6 @@ reset_interrupt = 0x8010
 abbrev pub powered : ℕ → Registers
 powered p = started start_config boot_interrupt p
 
--- of F221h a hot or warm reset keeps bits 7 to 5, and sets the others as at power-up
-abbrev pub kept_config : ℕ
-kept_config = 0x00E0
-
-abbrev pub reset_config : ℕ
-reset_config = 0x4000
-
--- registers after a hot or warm reset
+-- registers after a hot or warm reset, which keeps bits 7 to 5 of F221h
 abbrev pub reset : Registers → ℕ → Registers
-reset r p = started (reset_config + bit_and r.config kept_config) reset_interrupt p
+reset r p = started (0x4000 + bit_and r.config 0x00E0) reset_interrupt p

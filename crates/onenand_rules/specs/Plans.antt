@@ -1,7 +1,6 @@
 -- What an accepted command is going to do, tick by tick.
 -- f: how it fails; t, from, to: transfers; b: a block; l, a, z: the state that it makes of the blocks from a to z; k: ticks had.
 use Rattle.std.specs.Prelude.{ℕ, ◌+◌, ◌-◌, Bool, true, false, cond, not, ◌||◌, nat_lt}
-use Rattle.flash.specs.Geometry.{block_pages}
 use Rattle.onenand_transfer.specs.Transfers.{words, chosen}
 use Rattle.onenand_rules.specs.declared.commands.ResetKind.TheVariants.{Core, Hot}
 use Rattle.onenand_rules.specs.declared.commands.Command.{Command}
@@ -17,18 +16,14 @@ use Rattle.onenand_rules.specs.declared.plans.Action.{Action}
 use Rattle.onenand_rules.specs.declared.plans.Action.TheVariants.{Fail, Wait, LoadWord, ProgramWord, EraseBlock, VerifyPage, SetLocks}
 use Rattle.onenand_rules.specs.Commands.{is_reset}
 
--- an erase takes as many ticks as a block has pages, and calls the array in the last
-abbrev pub erase_ticks : ℕ
-erase_ticks = 64
-
 -- how many ticks it takes at most; a verify looks at a page a tick
 abbrev pub ticks_of : Plan → ℕ
 ticks_of (Fails f k) = 1
 ticks_of (Loads t) = words t
 ticks_of (Programs t) = words t
 ticks_of (Copies from to) = words from + words to
-ticks_of (Erases b) = erase_ticks
-ticks_of (Verifies b) = block_pages
+ticks_of (Erases b) = 64
+ticks_of (Verifies b) = 64
 ticks_of (Protects l a z) = 1
 ticks_of (Resets r) = 1
 
@@ -38,7 +33,7 @@ action_of (Fails f d) k = Fail
 action_of (Loads t) k = LoadWord t k
 action_of (Programs t) k = ProgramWord t k
 action_of (Copies from to) k = cond (nat_lt k (words from)) (LoadWord from k) (ProgramWord to (k - words from))
-action_of (Erases b) k = cond (nat_lt k (erase_ticks - 1)) Wait (EraseBlock b)
+action_of (Erases b) k = cond (nat_lt k 63) Wait (EraseBlock b)
 action_of (Verifies b) k = VerifyPage b k
 action_of (Protects l a z) k = SetLocks l a z
 action_of (Resets r) k = Wait

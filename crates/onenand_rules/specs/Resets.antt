@@ -15,10 +15,6 @@ use Rattle.onenand_rules.specs.State.{State, state_for, state_with}
 abbrev pub all_locked : List Lock
 all_locked = replicate max_blocks Locked
 
--- the words of DataRAM: four sectors of 256 main and 8 spare words
-abbrev pub data_words : ℕ
-data_words = 1056
-
 -- the boot load: both sectors of block 0, page 0
 abbrev pub boot_words : Meaning → List ℕ
 boot_words m = map (word_at m 0 0) (range_with_len 0 page_words)
@@ -30,7 +26,7 @@ fresh_core d v boot = record {
   version = v;
   registers = poweredRegisters (protection_word Locked);
   bootram = boot;
-  dataram = replicate data_words blank_word;
+  dataram = replicate 1056 blank_word;
   locks = all_locked;
   running = Idle;
 }

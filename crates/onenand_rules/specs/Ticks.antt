@@ -101,19 +101,15 @@ closed p r = cond (is_hot p) (reset r r.protection) (command_ended r 0x0000 (rai
 abbrev pub failed : Plan → Registers → Registers
 failed p r = command_ended r (error_status (plan_fault p) (plan_kind p)) (raised (plan_kind p))
 
--- tick number k of a plan, which does this action
-abbrev pub ticked_by : State → Plan → ℕ → Action → State × Reply
-ticked_by s p k a =
-    cond (succeeds s.array a)
-    (cond (nat_lt (k + 1) (ticks_of p))
-    (acted s a (registers_after s a) (Runs p (k + 1)), tick 1)
-    (acted s a (closed p (registers_after s a)) Idle, tick 0))
-    (state_with s (failed p s.core.registers) s.core.dataram s.core.locks Idle s.array, tick 0)
-
 -- a tick, with what is running
 abbrev pub ticked : State → Running → State × Reply
 ticked s Idle = (s, refused 11)
-ticked s (Runs p k) = ticked_by s p k (action_of p k)
+ticked s (Runs p k) =
+    cond (succeeds s.array (action_of p k))
+    (cond (nat_lt (k + 1) (ticks_of p))
+    (acted s (action_of p k) (registers_after s (action_of p k)) (Runs p (k + 1)), tick 1)
+    (acted s (action_of p k) (closed p (registers_after s (action_of p k))) Idle, tick 0))
+    (state_with s (failed p s.core.registers) s.core.dataram s.core.locks Idle s.array, tick 0)
 
 -- the core and the array after one action alone
 abbrev pub core_acted : Core → Meaning → Action → Core

@@ -7,7 +7,7 @@ use Rattle.calibration.proofs.add_ticks.Goals as goal
 pub loop-i-preserved : goal.loop-i-preserved
 loop-i-preserved c =
     let start = vec_items c.args.calls.now in
-    c.in-ok-push.ensures.items
+    c.in_ok-push.ensures.items
     ∙ ap (λ xs. xs ++ (Tick ∷ [])) c.loop-i.invariant
     ∙ append_assoc start (replicate c.loop-i.-i Tick) (Tick ∷ [])
     ∙ ap (λ xs. start ++ xs) (replicate_more c.loop-i.-i Tick)

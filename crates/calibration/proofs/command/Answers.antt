@@ -12,9 +12,9 @@ returns c =
     let ts = replicate c.args.ticks Tick in
     let a = Write 0xF241 0x0000 in
     let b = Write 0xF220 c.args.code in
-    c.in-ok-push-3.ensures.items
-    ∙ ap (λ xs. xs ++ (Read 0xF240 ∷ [])) c.in-ok-add-ticks.ensures
-    ∙ ap (λ xs. (xs ++ ts) ++ (Read 0xF240 ∷ [])) c.in-ok-push-2.ensures.items
-    ∙ ap (λ xs. ((xs ++ (b ∷ [])) ++ ts) ++ (Read 0xF240 ∷ [])) c.in-ok-push.ensures.items
-    ∙ ap (λ xs. (((xs ++ (a ∷ [])) ++ (b ∷ [])) ++ ts) ++ (Read 0xF240 ∷ [])) c.in-ok-calls.ensures.items
+    c.in_ok-push-3.ensures.items
+    ∙ ap (λ xs. xs ++ (Read 0xF240 ∷ [])) c.in_ok-add_ticks.ensures
+    ∙ ap (λ xs. (xs ++ ts) ++ (Read 0xF240 ∷ [])) c.in_ok-push-2.ensures.items
+    ∙ ap (λ xs. ((xs ++ (b ∷ [])) ++ ts) ++ (Read 0xF240 ∷ [])) c.in_ok-push.ensures.items
+    ∙ ap (λ xs. (((xs ++ (a ∷ [])) ++ (b ∷ [])) ++ ts) ++ (Read 0xF240 ∷ [])) c.in_ok-calls.ensures.items
     ∙ joined c.args.first.now ts a b (Read 0xF240)

@@ -9,4 +9,4 @@ tested xs ys r h = search (rules, bytes_eq-Decides)
 pub returns : goal.returns
 returns c =
     tested _ _ c.eq-same.result c.eq-same.ensures
-    ∙ ap (λ xs. bytes_eq xs c.args.case.transcript.now) (c.as-str.ensures.value ∙ c.in-ok-came.ensures)
+    ∙ ap (λ xs. bytes_eq xs c.args.case.transcript.now) (c.as_str.ensures.value ∙ c.in_ok-came.ensures)

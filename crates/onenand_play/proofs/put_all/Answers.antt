@@ -17,7 +17,7 @@ loop-call-preserved g c =
     let calls = c.args.calls.now in
     let i = c.loop-call.call-index in (
       replies_more calls i (Read 0) here there c.loop-call-test.true c.answer-given.ensures.state
-          (vec_items c.loop-call.answers) (vec_items c.push.new.self) (map reply_of (vec_items c.args.answers.now) ++ replies start calls) c.answer-given.result c.answer-given.ensures.reply c.in-ok-push.ensures.items c.loop-call.invariant.0,
+          (vec_items c.loop-call.answers) (vec_items c.push.new.self) (map reply_of (vec_items c.args.answers.now) ++ replies start calls) c.answer-given.result c.answer-given.ensures.reply c.in_ok-push.ensures.items c.loop-call.invariant.0,
       state_more calls i (Read 0) here there c.loop-call-test.true c.answer-given.ensures.state (after start calls) c.loop-call.invariant.1,
       come_more calls i (Read 0) here there c.loop-call-test.true c.answer-given.ensures.state start c.loop-call.invariant.2,
     )
@@ -38,8 +38,8 @@ returns g c =
       promise = played start calls here end;
     }
 
-pub returns-in-err-push : goal.returns-in-err-push
-returns-in-err-push g c =
+pub returns-in_err-push : goal.returns-in_err-push
+returns-in_err-push g c =
     let m = g.D.Array.meaning in
     let here = state_for c.loop-call.chip.core (m c.loop-call.chip.array) in
     let start = state_for c.args.chip.now.core (m c.args.chip.now.array) in

@@ -9,7 +9,7 @@ loop-b-init c = record { long = refl; before = λ k below. absurd (omega arith);
 pub loop-b-preserved : goal.loop-b-preserved
 loop-b-preserved c =
     made_more c.args.l c.args.a c.args.z c.args.locks.now c.loop-b.locks c.loop-b.b c.made.result (omega arith)
-    (c.made.ensures ∙ ap (lock_made c.args.l c.args.a c.args.z c.loop-b.b) c.lock-at-old.ensures) c.loop-b.invariant
+    (c.made.ensures ∙ ap (lock_made c.args.l c.args.a c.args.z c.loop-b.b) c.lock_at-old.ensures) c.loop-b.invariant
 
 pub returns : goal.returns
 returns c = made_all c.args.l c.args.a c.args.z c.args.locks.now c.loop-b.locks c.loop-b.b c.loop-b-test.false c.loop-b.invariant

@@ -8,15 +8,15 @@ loop-b-preserved c =
     let t = lock_at c.args.locks.now in
     let b = c.loop-b.b in
     sym (tight_more t b c.args.e c.loop-b-test.true
-    ∙ ap (λ q. q || tight_among t (b + 1) (c.args.e - (b + 1))) (ap is_tight (sym c.lock-at.ensures) ∙ sym c.if-is-tight.ensures))
+    ∙ ap (λ q. q || tight_among t (b + 1) (c.args.e - (b + 1))) (ap is_tight (sym c.lock_at.ensures) ∙ sym c.if-is_tight.ensures))
     ∙ c.loop-b.invariant
 
-pub returns-then-is-tight : goal.returns-then-is-tight
-returns-then-is-tight c =
+pub returns-then-is_tight : goal.returns-then-is_tight
+returns-then-is_tight c =
     let t = lock_at c.args.locks.now in
     let b = c.loop-b.b in
     sym (sym c.loop-b.invariant ∙ tight_more t b c.args.e c.loop-b-test.true
-    ∙ ap (λ q. q || tight_among t (b + 1) (c.args.e - (b + 1))) (ap is_tight (sym c.lock-at.ensures) ∙ sym c.if-is-tight.ensures))
+    ∙ ap (λ q. q || tight_among t (b + 1) (c.args.e - (b + 1))) (ap is_tight (sym c.lock_at.ensures) ∙ sym c.if-is_tight.ensures))
 
 pub returns : goal.returns
 returns c = sym (sym c.loop-b.invariant ∙ tight_none (lock_at c.args.locks.now) c.loop-b.b c.args.e c.loop-b-test.false)

@@ -9,8 +9,8 @@ returns c =
     let f = c.args.f107 in
     let low : f % 2 ≡ bit 0 f = omega arith in
     record {
-      value = c.sector-word.ensures.value
+      value = c.sector_word.ensures.value
           ∙ ap (λ (j : ℕ). sector_word 2 ((f % 2 + j / 264) % 2) (j % 264)) c.count-c.ensures.value
           ∙ ap (λ (b : ℕ). sector_word 2 ((b + counted c.args.part c.args.i / 264) % 2) (counted c.args.part c.args.i % 264)) low;
-      low = c.sector-word.ensures.low;
+      low = c.sector_word.ensures.low;
     }

@@ -13,44 +13,44 @@ use Rattle.script.specs.Transcript.{told}
 use Rattle.script.proofs.Lengths.{text_long, text_short, calls_long, calls_short}
 use Rattle.script.proofs.play_script.Goals as goal
 
-pub returns-then-is-too-long : goal.returns-then-is-too-long
-returns-then-is-too-long g c =
+pub returns-then-is_too_long : goal.returns-then-is_too_long
+returns-then-is_too_long g c =
     let s = state_for c.args.chip.now.core (g.D.Array.meaning c.args.chip.now.array) in
     let script = c.args.script.now in
-    let long = sym c.is-too-long.ensures ∙ c.if-is-too-long.true in
+    let long = sym c.is_too_long.ensures ∙ c.if-is_too_long.true in
     let none = ap (after s) (sym (calls_long script s long)) in
     record {
-      text = c.in-ok-add-entry.ensures ∙ ap (λ (o : List ℕ). o ++ line_of c.too-long.result) c.new-out.ensures.bytes ∙ ap (λ (e : Entry). line_of e) c.too-long.ensures ∙ sym (text_long script s long);
+      text = c.in_ok-add_entry.ensures ∙ ap (λ (o : List ℕ). o ++ line_of c.too_long.result) c.new-out.ensures.bytes ∙ ap (λ (e : Entry). line_of e) c.too_long.ensures ∙ sym (text_long script s long);
       state = none;
       stopped = (0, refl);
       promise = played s (calls_of script s) s none;
     }
 
-pub returns-in-err-play-lines : goal.returns-in-err-play-lines
-returns-in-err-play-lines g c =
+pub returns-in_err-play_lines : goal.returns-in_err-play_lines
+returns-in_err-play_lines g c =
     let m = g.D.Array.meaning in
     let s = state_for c.args.chip.now.core (m c.args.chip.now.array) in
-    let there = state_for c.play-lines.new.chip.core (m c.play-lines.new.chip.array) in
+    let there = state_for c.play_lines.new.chip.core (m c.play_lines.new.chip.array) in
     let script = c.args.script.now in
-    let short = sym c.is-too-long.ensures ∙ c.if-is-too-long.false in
+    let short = sym c.is_too_long.ensures ∙ c.if-is_too_long.false in
     record {
-      text = IfOk-from_err c.from-residual-in-err-play-lines.result _ c.from-residual-in-err-play-lines.ensures.0;
-      state = IfOk-from_err c.from-residual-in-err-play-lines.result _ c.from-residual-in-err-play-lines.ensures.0;
-      stopped = subst (λ (cs : List Call). Stopped s cs there) (sym (calls_short script s short)) c.play-lines.ensures.stopped;
-      promise = IfOk-from_err c.from-residual-in-err-play-lines.result _ c.from-residual-in-err-play-lines.ensures.0;
+      text = IfOk-from_err c.from-residual-in_err-play_lines.result _ c.from-residual-in_err-play_lines.ensures.0;
+      state = IfOk-from_err c.from-residual-in_err-play_lines.result _ c.from-residual-in_err-play_lines.ensures.0;
+      stopped = subst (λ (cs : List Call). Stopped s cs there) (sym (calls_short script s short)) c.play_lines.ensures.stopped;
+      promise = IfOk-from_err c.from-residual-in_err-play_lines.result _ c.from-residual-in_err-play_lines.ensures.0;
     }
 
 pub returns : goal.returns
 returns g c =
     let m = g.D.Array.meaning in
     let s = state_for c.args.chip.now.core (m c.args.chip.now.array) in
-    let there = state_for c.play-lines.new.chip.core (m c.play-lines.new.chip.array) in
+    let there = state_for c.play_lines.new.chip.core (m c.play_lines.new.chip.array) in
     let script = c.args.script.now in
-    let short = sym c.is-too-long.ensures ∙ c.if-is-too-long.false in
-    let led = c.in-ok-play-lines.ensures.state ∙ ap (after s) (sym (calls_short script s short)) in
+    let short = sym c.is_too_long.ensures ∙ c.if-is_too_long.false in
+    let led = c.in_ok-play_lines.ensures.state ∙ ap (after s) (sym (calls_short script s short)) in
     record {
-      text = c.in-ok-play-lines.ensures.text ∙ ap (λ (o : List ℕ). o ++ told 1 (lines_of script) s) c.new-out.ensures.bytes ∙ sym (text_short script s short);
+      text = c.in_ok-play_lines.ensures.text ∙ ap (λ (o : List ℕ). o ++ told 1 (lines_of script) s) c.new-out.ensures.bytes ∙ sym (text_short script s short);
       state = led;
-      stopped = subst (λ (cs : List Call). Stopped s cs there) (sym (calls_short script s short)) c.play-lines.ensures.stopped;
+      stopped = subst (λ (cs : List Call). Stopped s cs there) (sym (calls_short script s short)) c.play_lines.ensures.stopped;
       promise = played s (calls_of script s) there led;
     }

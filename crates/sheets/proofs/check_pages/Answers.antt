@@ -10,9 +10,9 @@ returns c =
     let n = c.args.count in
     let ss = c.args.sheets.now in
     let e = ap (walked n ss) c.fill.ensures ∙ walk_cleared n ss c.args.scratch.now c.requires in
-    let all = c.mark-pages.ensures.value ∙ ap (λ (x : Bool × List ℕ). x.0) e in
+    let all = c.mark_pages.ensures.value ∙ ap (λ (x : Bool × List ℕ). x.0) e in
     record {
       value = all;
-      scratch = c.mark-pages.ensures.scratch ∙ ap (λ (x : Bool × List ℕ). x.1) e;
+      scratch = c.mark_pages.ensures.scratch ∙ ap (λ (x : Bool × List ℕ). x.1) e;
       owned = λ t. pages_owned n ss (eqb-true (good_sheets n [] ss) (length ss) (sym all ∙ t));
     }

@@ -46,7 +46,7 @@ loop-k-preserved g c =
     let there = state_for c.tick.new.self.core (m c.tick.new.self.array) in
     let told = c.in-Ok.ensures in
     let led = joined (step here Tick).0 there.core there.array told.core told.flash in
-    let runs = still_runs c.in-Ok.progress (step here Tick).1 c.in-default.is told.answer in (
+    let runs = still_runs c.in-Ok.progress (step here Tick).1 c.in_default.is told.answer in (
       omega (arith, c.loop-k-test.true),
       omega (arith, answered_on 1056 c.loop-k.k here there c.loop-k-test.true led runs, c.loop-k.invariant.1),
       sym (ended_on 1056 c.loop-k.k here there c.loop-k-test.true led runs) ∙ c.loop-k.invariant.2,

@@ -14,6 +14,6 @@ loop-round-preserved g c =
     let m = g.D.Array.meaning in
     let start = state_for c.command-ticks.new.chip.core (m c.command-ticks.new.chip.array) in
     let here = state_for c.loop-round.chip.core (m c.loop-round.chip.array) in
-    let there = state_for c.play-round-tally.new.chip.core (m c.play-round-tally.new.chip.array) in
-    let told = c.play-round-tally.ensures in
-    round_on c.loop-round.round start here there (tally_of c.command-ticks.result 0) c.loop-round.tally c.play-round-tally.result c.loop-round.invariant told.tally told.state
+    let there = state_for c.play_round-tally.new.chip.core (m c.play_round-tally.new.chip.array) in
+    let told = c.play_round-tally.ensures in
+    round_on c.loop-round.round start here there (tally_of c.command-ticks.result 0) c.loop-round.tally c.play_round-tally.result c.loop-round.invariant told.tally told.state

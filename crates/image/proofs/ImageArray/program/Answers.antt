@@ -6,7 +6,7 @@ use Rattle.image.proofs.ImageArray.program.Goals as goal
 pub returns : goal.returns
 returns c =
     let s = c.args.self.now in
-    let e = c.and-word.ensures in
+    let e = c.and_word.ensures in
     record {
       value = e.value;
       after = ap₂ image_meaning e.words e.worn ∙ programmed_is s.words.now s.worn.now c.args.block c.args.page c.args.word c.args.bits (omega arith);

@@ -3,7 +3,7 @@ use Rattle.onenand.proofs.chip.power_on.Goals as goal
 
 pub returns : goal.returns
 returns g c = record {
-  core = c.core-over.ensures.core;
-  same = c.core-over.ensures.same;
+  core = c.core_over.ensures.core;
+  same = c.core_over.ensures.same;
   promise = λ calls. promised c.args.device c.args.version (g.D.Array.meaning c.args.array.now) calls (g.D.Array.capped c.args.array.now);
 }

@@ -6,6 +6,6 @@ use Rattle.onenand_rows.proofs.Row.of.Goals as goal
 
 pub returns : goal.returns
 returns c = record {
-  value = c.next-row.ensures;
-  suits = subst (λ (r : Row). Suits r c.args.running) (sym c.next-row.ensures) (next_suits c.args.running);
+  value = c.next_row.ensures;
+  suits = subst (λ (r : Row). Suits r c.args.running) (sym c.next_row.ensures) (next_suits c.args.running);
 }

@@ -4,6 +4,6 @@ use Rattle.onenand_steps.proofs.power.core_over.Goals as goal
 
 pub returns : goal.returns
 returns g c = record {
-  core = c.fresh-core.ensures ∙ ap (fresh_core c.args.device c.args.version) c.boot-words-boot.ensures.words;
-  same = c.boot-words-boot.ensures.same;
+  core = c.fresh_core.ensures ∙ ap (fresh_core c.args.device c.args.version) c.boot_words-boot.ensures.words;
+  same = c.boot_words-boot.ensures.same;
 }

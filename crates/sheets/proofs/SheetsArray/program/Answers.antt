@@ -6,8 +6,8 @@ use Rattle.sheets.proofs.SheetsArray.program.Goals as goal
 pub returns : goal.returns
 returns c =
     let s = c.args.self.now in
-    let t = c.and-word.new.self in
-    let e = c.and-word.ensures in
+    let t = c.and_word.new.self in
+    let e = c.and_word.ensures in
     record {
       value = e.value;
       after = ap (λ n. sheet_meaning n t.sheets.now t.words.now) e.size

@@ -5,13 +5,13 @@ use Rattle.cases.proofs.case.Case.read.Goals as goal
 pub returns : goal.returns
 returns c =
     let first = split_parts 10 c.args.text.now (Some (c.in-Some.name, c.in-Some.rest)) c.in-Some.ensures.cases (lit< tt) in
-    let second = split_text_parts (61 ∷ 10 ∷ []) c.in-Some.rest.now (Some (c.in-Some-split-once.script, c.in-Some-split-once.transcript)) c.in-Some-split-once.ensures.cases in
+    let second = split_text_parts (61 ∷ 10 ∷ []) c.in-Some.rest.now (Some (c.in-Some-split_once.script, c.in-Some-split_once.transcript)) c.in-Some-split_once.ensures.cases in
     (first.0 ∙ ap (λ xs. c.in-Some.name.now ++ (10 ∷ xs)) second, first.1)
 
-pub returns-in-default : goal.returns-in-default
-returns-in-default c n s t one e = split_after 10 c.args.text.now n (s ++ (61 ∷ 10 ∷ t)) None c.in-default.ensures.cases (lit< tt) e one
+pub returns-in_default : goal.returns-in_default
+returns-in_default c n s t one e = split_after 10 c.args.text.now n (s ++ (61 ∷ 10 ∷ t)) None c.in_default.ensures.cases (lit< tt) e one
 
-pub returns-in-default-split-once : goal.returns-in-default-split-once
-returns-in-default-split-once c n s t one e =
+pub returns-in_default-split_once : goal.returns-in_default-split_once
+returns-in_default-split_once c n s t one e =
     let first = split_after 10 c.args.text.now n (s ++ (61 ∷ 10 ∷ t)) (Some (c.in-Some.name, c.in-Some.rest)) c.in-Some.ensures.cases (lit< tt) e one in
-    split_text_parts (61 ∷ 10 ∷ []) c.in-Some.rest.now None c.in-default-split-once.ensures.cases s t first.1
+    split_text_parts (61 ∷ 10 ∷ []) c.in-Some.rest.now None c.in_default-split_once.ensures.cases s t first.1

@@ -12,7 +12,7 @@ pub overflow-add-k : goal.overflow-add-k
 overflow-add-k g c =
     let chip = c.args.self.now in
     let suits = subst (Suits chip.row) c.in-Runs.is chip.suits in
-    let h : c.in-Runs.k + 1 ≤ 1056 = short (state_for chip.core (g.D.Array.meaning chip.array)) chip.row c.in-Runs.field-0 c.in-Runs.k suits (sym c.is-along.ensures ∙ c.if-not-is-along.false) in
+    let h : c.in-Runs.k + 1 ≤ 1056 = short (state_for chip.core (g.D.Array.meaning chip.array)) chip.row c.in-Runs.field-0 c.in-Runs.k suits (sym c.is_along.ensures ∙ c.if-not-is_along.false) in
     omega arith
 
 pub returns : goal.returns
@@ -20,8 +20,8 @@ returns g c =
     let chip = c.args.self.now in
     let s = state_for chip.core (g.D.Array.meaning chip.array) in
     let suits = subst (Suits chip.row) c.in-Runs.is chip.suits in
-    let moved = c.move-word.ensures in
-    let e = ap (ticked s) c.in-Runs.is ∙ along_on s chip.row c.in-Runs.field-0 c.in-Runs.k suits (sym c.is-along.ensures ∙ c.if-not-is-along.false) (sym moved.value ∙ c.if-not-move-word.false) in
+    let moved = c.move_word.ensures in
+    let e = ap (ticked s) c.in-Runs.is ∙ along_on s chip.row c.in-Runs.field-0 c.in-Runs.k suits (sym c.is_along.ensures ∙ c.if-not-is_along.false) (sym moved.value ∙ c.if-not-move_word.false) in
     record {
       answer = ap (λ (q : State × Reply). q.1) e;
       core = (λ i. core_with chip.core chip.core.registers (moved.words i) chip.core.locks (Runs c.in-Runs.field-0 (c.in-Runs.k + 1))) ∙ sym (ap (λ (q : State × Reply). q.0.core) e);

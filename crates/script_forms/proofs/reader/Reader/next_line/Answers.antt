@@ -4,16 +4,16 @@ use Rattle.script_forms.specs.Lines.{lines_of}
 use Rattle.script_forms.proofs.Walks.{next_line, no_lines}
 use Rattle.script_forms.proofs.reader.Reader.next_line.Goals as goal
 
-pub returns-then-not-has-line : goal.returns-then-not-has-line
-returns-then-not-has-line c = let none = no_lines _ _ (false-ltb _ _ c.if-not-has-line.ensures) in (none, none, refl)
+pub returns-then-not-has_line : goal.returns-then-not-has_line
+returns-then-not-has_line c = let none = no_lines _ _ (false-ltb _ _ c.if-not-has_line.ensures) in (none, none, refl)
 
 pub returns : goal.returns
 returns c =
     let script = c.args.self.now.script.now in
     let at = c.args.self.now.at in
-    let end = c.line-end-end.result in (
-      next_line script at end (true-ltb _ _ c.if-not-has-line.ensures) c.line-end-end.ensures.value
-          ∙ ap (λ (k : ℕ). take (end - at) (drop at script) ∷ lines_of (drop k script)) (sym c.past-line-self.ensures),
+    let end = c.line_end-end.result in (
+      next_line script at end (true-ltb _ _ c.if-not-has_line.ensures) c.line_end-end.ensures.value
+          ∙ ap (λ (k : ℕ). take (end - at) (drop at script) ∷ lines_of (drop k script)) (sym c.past_line-self.ensures),
       refl,
       refl,
     )
