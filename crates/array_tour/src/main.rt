@@ -14,7 +14,7 @@ const OVER: [u16; 4] = [0x1FFF, 0xFF0F, 0x0000, 0xFFFF];
 
 // Programs the words of a table from the first word of a page on.
 fn store<D: Array>(array: &mut D, block: usize, page: usize, words: &[u16])
-    ensures { meaning array.new ≡ stored (meaning array.old) block page 0 words.now }
+    ensures { D.meaning array.new ≡ stored (D.meaning array.old) block page 0 words.now }
 {
     for (i, w) in words.iter().enumerate() {
         let _ = array.program(block, page, i, *w);
@@ -23,8 +23,8 @@ fn store<D: Array>(array: &mut D, block: usize, page: usize, words: &[u16])
 
 // The first four words of a page.
 fn read_four<D: Array>(array: &mut D, block: usize, page: usize) -> [u16; 4]
-    ensures value { result ≡ four_words (meaning array.old) block page }
-    ensures same { meaning array.new ≡ meaning array.old }
+    ensures value { result ≡ four_words (D.meaning array.old) block page }
+    ensures same { D.meaning array.new ≡ D.meaning array.old }
 {
     let a = array.read(block, page, 0);
     let b = array.read(block, page, 1);
@@ -51,7 +51,7 @@ fn print_page<D: Array>(
     block: usize,
     page: usize,
 ) -> io::Result<()>
-    ensures { meaning array.new ≡ meaning array.old }
+    ensures { D.meaning array.new ≡ D.meaning array.old }
 {
     let t = read_four(array, block, page);
     println!(rt;
@@ -68,7 +68,7 @@ fn tour<D: Array>(
     dead_page: usize,
     beyond: usize,
 ) -> io::Result<()>
-    ensures { OnOk result (meaning array.new ≡ toured (meaning array.old) 1 4 (0x1F40 ∷ 0x2EE0 ∷ 0x3E80 ∷ 0x4E20 ∷ []) (0x1FFF ∷ 0xFF0F ∷ 0 ∷ 0xFFFF ∷ []) dead_block dead_page beyond) }
+    ensures { OnOk result (D.meaning array.new ≡ toured (D.meaning array.old) 1 4 (0x1F40 ∷ 0x2EE0 ∷ 0x3E80 ∷ 0x4E20 ∷ []) (0x1FFF ∷ 0xFF0F ∷ 0 ∷ 0xFFFF ∷ []) dead_block dead_page beyond) }
 {
     store(array, 1, 4, &TABLE);
     print_page(rt, "block 1, page 4, the table stored", array, 1, 4)?;

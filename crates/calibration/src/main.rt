@@ -202,7 +202,7 @@ fn stage<D: Array>(
     what: &str,
     calls: &[Call],
 ) -> anyhow::Result<()>
-    ensures { OnOk result (state_for chip.new.core (meaning chip.new.array) ≡ after (state_for chip.old.core (meaning chip.old.array)) calls.now) }
+    ensures { OnOk result (state_for chip.new.core (D.meaning chip.new.array) ≡ after (state_for chip.old.core (D.meaning chip.old.array)) calls.now) }
 {
     let answers = play(chip, rt.alloc(), calls)?;
     print!(rt; "  {what}:")?;

@@ -37,9 +37,9 @@ pub struct Chip<D: Array> {
 
 // Power comes on over an array: what the chip holds then.
 fn power_on<D: Array>(array: &mut D, device: u16, version: u16) -> Core
-    ensures core { result ≡ (powered_up device version (meaning array.old)).core }
-    ensures same { meaning array.new ≡ meaning array.old }
-    ensures promise { (calls : List Call) → Promise device version (meaning array.old) calls }
+    ensures core { result ≡ (powered_up device version (D.meaning array.old)).core }
+    ensures same { D.meaning array.new ≡ D.meaning array.old }
+    ensures promise { (calls : List Call) → Promise device version (D.meaning array.old) calls }
 {
     core_over(array, device, version)
 }
@@ -47,9 +47,9 @@ fn power_on<D: Array>(array: &mut D, device: u16, version: u16) -> Core
 impl<D: Array> Chip<D> {
     // A chip over an array, as its power comes on. Whatever list of calls is then put to it, the promise holds of it.
     pub fn power_up(array: D, device: u16, version: u16) -> Chip<D>
-        ensures core { result.core ≡ (powered_up device version (meaning array)).core }
-        ensures flash { meaning result.array ≡ meaning array }
-        ensures promise { (calls : List Call) → Promise device version (meaning array) calls }
+        ensures core { result.core ≡ (powered_up device version (D.meaning array)).core }
+        ensures flash { D.meaning result.array ≡ D.meaning array }
+        ensures promise { (calls : List Call) → Promise device version (D.meaning array) calls }
     {
         let mut array = array;
         let core = power_on(&mut array, device, version);
@@ -59,7 +59,7 @@ impl<D: Array> Chip<D> {
 
     // The array back.
     pub fn into_array(self) -> D
-        ensures { meaning result ≡ meaning self.array }
+        ensures { D.meaning result ≡ D.meaning self.array }
     {
         let Chip {
             array,
@@ -71,9 +71,9 @@ impl<D: Array> Chip<D> {
 
     // Tick number k of a running plan.
     fn run_on(&mut self, plan: Plan, k: u16) -> Progress
-        ensures answer { tick_of (tick_number result) ≡ (ticked (state_for self.old.core (meaning self.old.array)) (runs_on plan k)).1 }
-        ensures core { self.new.core ≡ (ticked (state_for self.old.core (meaning self.old.array)) (runs_on plan k)).0.core }
-        ensures flash { meaning self.new.array ≡ (ticked (state_for self.old.core (meaning self.old.array)) (runs_on plan k)).0.array }
+        ensures answer { tick_of (tick_number result) ≡ (ticked (state_for self.old.core (D.meaning self.old.array)) (runs_on plan k)).1 }
+        ensures core { self.new.core ≡ (ticked (state_for self.old.core (D.meaning self.old.array)) (runs_on plan k)).0.core }
+        ensures flash { D.meaning self.new.array ≡ (ticked (state_for self.old.core (D.meaning self.old.array)) (runs_on plan k)).0.array }
     {
         let progress = if !act(&mut self.array, &mut self.core, plan.action(k)) {
             fail(&mut self.core.registers, plan);
@@ -93,9 +93,9 @@ impl<D: Array> Chip<D> {
 
     // A tick along the row. True: it is done, and the command runs on. False: nothing has changed, and it is still to be done.
     fn go_along(&mut self) -> bool
-        ensures answer { (if result then (step (state_for self.old.core (meaning self.old.array)) tick_call).1 else tick_of 1) ≡ tick_of 1 }
-        ensures core { self.new.core ≡ (if result then (step (state_for self.old.core (meaning self.old.array)) tick_call).0.core else self.old.core) }
-        ensures flash { meaning self.new.array ≡ (if result then (step (state_for self.old.core (meaning self.old.array)) tick_call).0.array else meaning self.old.array) }
+        ensures answer { (if result then (step (state_for self.old.core (D.meaning self.old.array)) tick_call).1 else tick_of 1) ≡ tick_of 1 }
+        ensures core { self.new.core ≡ (if result then (step (state_for self.old.core (D.meaning self.old.array)) tick_call).0.core else self.old.core) }
+        ensures flash { D.meaning self.new.array ≡ (if result then (step (state_for self.old.core (D.meaning self.old.array)) tick_call).0.array else D.meaning self.old.array) }
     {
         let Running::Runs(_, k) = &mut self.core.running else {
             return false;
@@ -117,9 +117,9 @@ impl<D: Array> Chip<D> {
 
     // One tick of the running command.
     pub fn tick(&mut self) -> Result<Progress, Refusal>
-        ensures answer { tick_reply result ≡ (step (state_for self.old.core (meaning self.old.array)) tick_call).1 }
-        ensures core { self.new.core ≡ (step (state_for self.old.core (meaning self.old.array)) tick_call).0.core }
-        ensures flash { meaning self.new.array ≡ (step (state_for self.old.core (meaning self.old.array)) tick_call).0.array }
+        ensures answer { tick_reply result ≡ (step (state_for self.old.core (D.meaning self.old.array)) tick_call).1 }
+        ensures core { self.new.core ≡ (step (state_for self.old.core (D.meaning self.old.array)) tick_call).0.core }
+        ensures flash { D.meaning self.new.array ≡ (step (state_for self.old.core (D.meaning self.old.array)) tick_call).0.array }
     {
         if self.go_along() {
             return Ok(Progress::Running);
@@ -132,8 +132,8 @@ impl<D: Array> Chip<D> {
 
     // A warm reset.
     pub fn warm(&mut self)
-        ensures core { self.new.core ≡ (step (state_for self.old.core (meaning self.old.array)) warm_call).0.core }
-        ensures flash { meaning self.new.array ≡ (step (state_for self.old.core (meaning self.old.array)) warm_call).0.array }
+        ensures core { self.new.core ≡ (step (state_for self.old.core (D.meaning self.old.array)) warm_call).0.core }
+        ensures flash { D.meaning self.new.array ≡ (step (state_for self.old.core (D.meaning self.old.array)) warm_call).0.array }
     {
         self.core.registers.reset(Lock::Locked.protection_word());
         self.core.locks = [Lock::Locked; MAX_BLOCKS];
@@ -143,8 +143,8 @@ impl<D: Array> Chip<D> {
 
     // A cold reset.
     pub fn cold(&mut self)
-        ensures core { self.new.core ≡ (step (state_for self.old.core (meaning self.old.array)) cold_call).0.core }
-        ensures flash { meaning self.new.array ≡ (step (state_for self.old.core (meaning self.old.array)) cold_call).0.array }
+        ensures core { self.new.core ≡ (step (state_for self.old.core (D.meaning self.old.array)) cold_call).0.core }
+        ensures flash { D.meaning self.new.array ≡ (step (state_for self.old.core (D.meaning self.old.array)) cold_call).0.array }
     {
         self.core = power_on(&mut self.array, self.core.device, self.core.version);
         self.row = Row::of(self.core.running);

@@ -2,7 +2,7 @@
 use Rattle.std.proofs.Common.{◌≡◌, ℕ, zero, suc, ◌+◌, ◌-◌, ◌<◌, ◌≤◌, Bool, true, false, cond, ◌&&◌, ltb, leb, ◌⊎◌, List, map, length, sym, refl, ap, ◌∙◌, inl, inr, ⊎_elim, arith}
 use mathlib.Core.Path.{fun_ext}
 use Rattle.std.specs.List.{range_with_len}
-use Rattle.std.proofs.lemmas.Bool.{cond_both, cond-false, cases_lt, cases_eq, or_left, or_right, and_parts, leb-true, ltb-true, lt-leb, and_right, not_true, both_ways}
+use Rattle.std.proofs.lemmas.Bool.{cond_both, cond-false, cases_lt, cases_eq, or_left, or_right, and_parts, leb-true, ltb-true, lt-leb, and_right, not-true, both_ways}
 use Rattle.std.proofs.lemmas.List.{get_or_past}
 use Rattle.std.proofs.lemmas.List.FromFn.{length-map-range_with_len, get_or-map-range_with_len}
 use Rattle.flash.specs.Geometry.{max_blocks}
@@ -42,7 +42,7 @@ module _ (n a z b : ℕ) (t : ℕ → Lock) (h : t b ≡ Tight) where
 
   protected_tight : (l : Lock) → protected n l a z t b ≡ Tight
   protected_tight l = cond_both (obeyed n l a z t) (locks_made l a z t) t (λ f. f b ≡ Tight)
-      (λ e. made_tight l (not_true _ (and_parts (leb a z && ltb z n) _ e).1))
+      (λ e. made_tight l (not-true _ (and_parts (leb a z && ltb z n) _ e).1))
       (λ _. h)
 
   ended_tight : (c : Command) → locks_ended n c a z t b ≡ Tight

@@ -12,8 +12,8 @@ use std::alloc::{AllocError, Global};
 
 // One call, and what it answers.
 pub fn answer<D: Array>(chip: &mut Chip<D>, call: Call) -> Answer
-    ensures reply { reply_of result ≡ (step (state_for chip.old.core (meaning chip.old.array)) call).1 }
-    ensures state { state_for chip.new.core (meaning chip.new.array) ≡ (step (state_for chip.old.core (meaning chip.old.array)) call).0 }
+    ensures reply { reply_of result ≡ (step (state_for chip.old.core (D.meaning chip.old.array)) call).1 }
+    ensures state { state_for chip.new.core (D.meaning chip.new.array) ≡ (step (state_for chip.old.core (D.meaning chip.old.array)) call).0 }
 {
     match call {
         Call::Read(addr) => match chip.read(addr) {
@@ -45,10 +45,10 @@ fn put_all<D: Array>(
     calls: &[Call],
     answers: &mut Vec<Answer>,
 ) -> Result<(), AllocError>
-    ensures replies { OnOk result (map reply_of answers.new.items ≡ map reply_of answers.old.items ++ replies (state_for chip.old.core (meaning chip.old.array)) calls.now) }
-    ensures state { OnOk result (state_for chip.new.core (meaning chip.new.array) ≡ state_after (state_for chip.old.core (meaning chip.old.array)) calls.now) }
-    ensures stopped { Stopped (state_for chip.old.core (meaning chip.old.array)) calls.now (state_for chip.new.core (meaning chip.new.array)) }
-    ensures promise { OnOk result (Played (state_for chip.old.core (meaning chip.old.array)) calls.now (state_for chip.new.core (meaning chip.new.array))) }
+    ensures replies { OnOk result (map reply_of answers.new.items ≡ map reply_of answers.old.items ++ replies (state_for chip.old.core (D.meaning chip.old.array)) calls.now) }
+    ensures state { OnOk result (state_for chip.new.core (D.meaning chip.new.array) ≡ state_after (state_for chip.old.core (D.meaning chip.old.array)) calls.now) }
+    ensures stopped { Stopped (state_for chip.old.core (D.meaning chip.old.array)) calls.now (state_for chip.new.core (D.meaning chip.new.array)) }
+    ensures promise { OnOk result (Played (state_for chip.old.core (D.meaning chip.old.array)) calls.now (state_for chip.new.core (D.meaning chip.new.array))) }
 {
     for call in calls {
         let given = answer(chip, *call);
@@ -63,10 +63,10 @@ pub fn play<D: Array>(
     heap: Global,
     calls: &[Call],
 ) -> Result<Vec<Answer>, AllocError>
-    ensures replies { IfOk result (λ v. map reply_of v.items ≡ replies (state_for chip.old.core (meaning chip.old.array)) calls.now) }
-    ensures state { OnOk result (state_for chip.new.core (meaning chip.new.array) ≡ state_after (state_for chip.old.core (meaning chip.old.array)) calls.now) }
-    ensures stopped { Stopped (state_for chip.old.core (meaning chip.old.array)) calls.now (state_for chip.new.core (meaning chip.new.array)) }
-    ensures promise { OnOk result (Played (state_for chip.old.core (meaning chip.old.array)) calls.now (state_for chip.new.core (meaning chip.new.array))) }
+    ensures replies { IfOk result (λ v. map reply_of v.items ≡ replies (state_for chip.old.core (D.meaning chip.old.array)) calls.now) }
+    ensures state { OnOk result (state_for chip.new.core (D.meaning chip.new.array) ≡ state_after (state_for chip.old.core (D.meaning chip.old.array)) calls.now) }
+    ensures stopped { Stopped (state_for chip.old.core (D.meaning chip.old.array)) calls.now (state_for chip.new.core (D.meaning chip.new.array)) }
+    ensures promise { OnOk result (Played (state_for chip.old.core (D.meaning chip.old.array)) calls.now (state_for chip.new.core (D.meaning chip.new.array))) }
 {
     let mut answers = Vec::new(heap);
     put_all(chip, calls, &mut answers)?;

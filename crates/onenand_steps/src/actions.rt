@@ -14,8 +14,8 @@ use onenand_transfer::Transfer;
 
 // Word i of a transfer, from the array to the buffer.
 fn load_word<D: Array>(array: &mut D, core: &mut Core, t: Transfer, i: u16)
-    ensures core { core.new ≡ core_acted core.old (meaning array.old) (load_word t i) }
-    ensures flash { meaning array.new ≡ meaning array.old }
+    ensures core { core.new ≡ core_acted core.old (D.meaning array.old) (load_word t i) }
+    ensures flash { D.meaning array.new ≡ D.meaning array.old }
 {
     load(
         array,
@@ -29,8 +29,8 @@ fn load_word<D: Array>(array: &mut D, core: &mut Core, t: Transfer, i: u16)
 
 // Word i of a transfer, from the buffer to the array: whether the array took it.
 fn program_word<D: Array>(array: &mut D, core: &Core, t: Transfer, i: u16) -> bool
-    ensures value { result ≡ succeeds (meaning array.old) (program_word t i) }
-    ensures flash { meaning array.new ≡ array_acted core.now (meaning array.old) (program_word t i) }
+    ensures value { result ≡ succeeds (D.meaning array.old) (program_word t i) }
+    ensures flash { D.meaning array.new ≡ array_acted core.now (D.meaning array.old) (program_word t i) }
 {
     program(
         array,
@@ -44,8 +44,8 @@ fn program_word<D: Array>(array: &mut D, core: &Core, t: Transfer, i: u16) -> bo
 
 // Erases a block: whether the array did.
 fn erase_block<D: Array>(array: &mut D, block: u16) -> bool
-    ensures value { result ≡ erasable (meaning array.old) block }
-    ensures flash { meaning array.new ≡ after_erase (meaning array.old) block }
+    ensures value { result ≡ erasable (D.meaning array.old) block }
+    ensures flash { D.meaning array.new ≡ after_erase (D.meaning array.old) block }
 {
     match array.erase(block as usize) {
         Outcome::Done => true,
@@ -55,7 +55,7 @@ fn erase_block<D: Array>(array: &mut D, block: u16) -> bool
 
 // A protection command, obeyed or ignored.
 fn set_locks<D: Array>(array: &D, core: &mut Core, l: Lock, first: u16, last: u16)
-    ensures { core.new ≡ core_acted core.old (meaning array.now) (set_locks l first last) }
+    ensures { core.new ≡ core_acted core.old (D.meaning array.now) (set_locks l first last) }
 {
     if protect(&mut core.locks, array.count(), l, first, last) {
         core.registers.protection = l.protection_word();
@@ -64,9 +64,9 @@ fn set_locks<D: Array>(array: &D, core: &mut Core, l: Lock, first: u16, last: u1
 
 // Does what one tick does, and says whether it went well.
 pub fn act<D: Array>(array: &mut D, core: &mut Core, action: Action) -> bool
-    ensures value { result ≡ succeeds (meaning array.old) action }
-    ensures core { core.new ≡ core_acted core.old (meaning array.old) action }
-    ensures flash { meaning array.new ≡ array_acted core.old (meaning array.old) action }
+    ensures value { result ≡ succeeds (D.meaning array.old) action }
+    ensures core { core.new ≡ core_acted core.old (D.meaning array.old) action }
+    ensures flash { D.meaning array.new ≡ array_acted core.old (D.meaning array.old) action }
 {
     match action {
         Action::Fail => false,

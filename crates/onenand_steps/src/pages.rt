@@ -7,8 +7,8 @@ use flash::{Array, BLANK, PAGE_WORDS};
 
 // The boot load: both sectors of block 0, page 0.
 pub(crate) fn boot_words<D: Array>(array: &mut D) -> [u16; PAGE_WORDS]
-    ensures words { result ≡ boot_words (meaning array.old) }
-    ensures same { meaning array.new ≡ meaning array.old }
+    ensures words { result ≡ boot_words (D.meaning array.old) }
+    ensures same { D.meaning array.new ≡ D.meaning array.old }
 {
     let mut boot = [BLANK; PAGE_WORDS];
     for w in 0..PAGE_WORDS {
@@ -19,8 +19,8 @@ pub(crate) fn boot_words<D: Array>(array: &mut D) -> [u16; PAGE_WORDS]
 
 // Whether every word of a page is blank.
 pub(crate) fn is_blank<D: Array>(array: &mut D, block: usize, page: usize) -> bool
-    ensures value { result ≡ blank (meaning array.old) block page 528 }
-    ensures same { meaning array.new ≡ meaning array.old }
+    ensures value { result ≡ blank (D.meaning array.old) block page 528 }
+    ensures same { D.meaning array.new ≡ D.meaning array.old }
 {
     for w in 0..PAGE_WORDS {
         if array.read(block, page, w) != BLANK {

@@ -26,8 +26,8 @@ fn fresh_core(device: u16, version: u16, bootram: [u16; PAGE_WORDS]) -> Core
 
 // What a chip holds as its power comes on over an array.
 pub fn core_over<D: Array>(array: &mut D, device: u16, version: u16) -> Core
-    ensures core { result ≡ (powered_up device version (meaning array.old)).core }
-    ensures same { meaning array.new ≡ meaning array.old }
+    ensures core { result ≡ (powered_up device version (D.meaning array.old)).core }
+    ensures same { D.meaning array.new ≡ D.meaning array.old }
 {
     let boot = boot_words(array);
     fresh_core(device, version, boot)

@@ -31,8 +31,8 @@ pub(crate) fn load<D: Array>(
     word: usize,
     place: usize,
 )
-    ensures words { dataram.new ≡ slice_set dataram.old place (word_at (meaning array.old) block page word) }
-    ensures flash { meaning array.new ≡ meaning array.old }
+    ensures words { dataram.new ≡ slice_set dataram.old place (word_at (D.meaning array.old) block page word) }
+    ensures flash { D.meaning array.new ≡ D.meaning array.old }
 {
     let read = array.read(block as usize, page as usize, word);
     set_word(dataram, place, read);
@@ -47,8 +47,8 @@ pub(crate) fn program<D: Array>(
     word: usize,
     place: usize,
 ) -> bool
-    ensures value { result ≡ programmable (meaning array.old) block page word }
-    ensures flash { meaning array.new ≡ after_program (meaning array.old) block page word (slice_index dataram.now place) }
+    ensures value { result ≡ programmable (D.meaning array.old) block page word }
+    ensures flash { D.meaning array.new ≡ after_program (D.meaning array.old) block page word (slice_index dataram.now place) }
 {
     let bits = word_at(dataram, place);
     match array.program(block as usize, page as usize, word, bits) {
@@ -59,9 +59,9 @@ pub(crate) fn program<D: Array>(
 
 // Moves word o of a row: whether it went well.
 pub fn move_word<D: Array>(array: &mut D, dataram: &mut [u16], row: Row, o: u16) -> bool
-    ensures value { result ≡ moved_well (meaning array.old) row.block row.page (row.word + o) row.way }
-    ensures words { dataram.new ≡ moved_data dataram.old (meaning array.old) row.block row.page (row.word + o) (row.«data» + o) row.way }
-    ensures flash { meaning array.new ≡ moved_array dataram.old (meaning array.old) row.block row.page (row.word + o) (row.«data» + o) row.way }
+    ensures value { result ≡ moved_well (D.meaning array.old) row.block row.page (row.word + o) row.way }
+    ensures words { dataram.new ≡ moved_data dataram.old (D.meaning array.old) row.block row.page (row.word + o) (row.«data» + o) row.way }
+    ensures flash { D.meaning array.new ≡ moved_array dataram.old (D.meaning array.old) row.block row.page (row.word + o) (row.«data» + o) row.way }
 {
     let word = row.word as usize + o as usize;
     let place = row.data as usize + o as usize;

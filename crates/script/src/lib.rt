@@ -24,8 +24,8 @@ pub const MAX_BYTES: usize = 16_384;
 
 // Puts a tick, and says whether it ran.
 fn tick_runs<D: Array>(chip: &mut Chip<D>) -> bool
-    ensures ran { result ≡ not (is_refused (step (state_for chip.old.core (meaning chip.old.array)) tick_call).1) }
-    ensures state { state_for chip.new.core (meaning chip.new.array) ≡ (step (state_for chip.old.core (meaning chip.old.array)) tick_call).0 }
+    ensures ran { result ≡ not (is_refused (step (state_for chip.old.core (D.meaning chip.old.array)) tick_call).1) }
+    ensures state { state_for chip.new.core (D.meaning chip.new.array) ≡ (step (state_for chip.old.core (D.meaning chip.old.array)) tick_call).0 }
 {
     match chip.tick() {
         Ok(_) => true,
@@ -35,8 +35,8 @@ fn tick_runs<D: Array>(chip: &mut Chip<D>) -> bool
 
 // Puts so many ticks, up to the first that is refused, and says how many ran.
 fn run_ticks<D: Array>(chip: &mut Chip<D>, count: u16) -> u16
-    ensures ran { result ≡ ran count (state_for chip.old.core (meaning chip.old.array)) }
-    ensures state { state_for chip.new.core (meaning chip.new.array) ≡ state_after (state_for chip.old.core (meaning chip.old.array)) (ticks_put count (state_for chip.old.core (meaning chip.old.array))) }
+    ensures ran { result ≡ ran count (state_for chip.old.core (D.meaning chip.old.array)) }
+    ensures state { state_for chip.new.core (D.meaning chip.new.array) ≡ state_after (state_for chip.old.core (D.meaning chip.old.array)) (ticks_put count (state_for chip.old.core (D.meaning chip.old.array))) }
 {
     let mut done = 0;
     while done < count && tick_runs(chip) {
@@ -47,8 +47,8 @@ fn run_ticks<D: Array>(chip: &mut Chip<D>, count: u16) -> u16
 
 // Does what a form asks.
 fn perform<D: Array>(chip: &mut Chip<D>, kind: Kind<'_>) -> Result<Entry, Fault>
-    ensures entry { coded result ≡ performed (state_for chip.old.core (meaning chip.old.array)) (asked kind.entry) }
-    ensures state { state_for chip.new.core (meaning chip.new.array) ≡ state_after (state_for chip.old.core (meaning chip.old.array)) (calls_for (state_for chip.old.core (meaning chip.old.array)) (asked kind.entry)) }
+    ensures entry { coded result ≡ performed (state_for chip.old.core (D.meaning chip.old.array)) (asked kind.entry) }
+    ensures state { state_for chip.new.core (D.meaning chip.new.array) ≡ state_after (state_for chip.old.core (D.meaning chip.old.array)) (calls_for (state_for chip.old.core (D.meaning chip.old.array)) (asked kind.entry)) }
 {
     match kind {
         Kind::Read(address) => {
@@ -80,8 +80,8 @@ fn perform<D: Array>(chip: &mut Chip<D>, kind: Kind<'_>) -> Result<Entry, Fault>
 
 // Plays a line. A refusal of the chip stands where its form begins.
 fn play_line<D: Array>(chip: &mut Chip<D>, line: Line<'_>) -> Entry
-    ensures entry { result ≡ entry_for line.entry.number (state_for chip.old.core (meaning chip.old.array)) (form_of line.entry.bytes.now) }
-    ensures state { state_for chip.new.core (meaning chip.new.array) ≡ state_after (state_for chip.old.core (meaning chip.old.array)) (calls_of_line (state_for chip.old.core (meaning chip.old.array)) (form_of line.entry.bytes.now)) }
+    ensures entry { result ≡ entry_for line.entry.number (state_for chip.old.core (D.meaning chip.old.array)) (form_of line.entry.bytes.now) }
+    ensures state { state_for chip.new.core (D.meaning chip.new.array) ≡ state_after (state_for chip.old.core (D.meaning chip.old.array)) (calls_of_line (state_for chip.old.core (D.meaning chip.old.array)) (form_of line.entry.bytes.now)) }
 {
     match line.form() {
         Ok(form) => match perform(chip, form.kind) {
@@ -98,9 +98,9 @@ fn play_lines<D: Array>(
     script: &[u8],
     out: &mut String,
 ) -> Result<(), AllocError>
-    ensures text { OnOk result (string_bytes out.new ≡ string_bytes out.old ++ told 1 (lines_of script.now) (state_for chip.old.core (meaning chip.old.array))) }
-    ensures state { OnOk result (state_for chip.new.core (meaning chip.new.array) ≡ state_after (state_for chip.old.core (meaning chip.old.array)) (calls_of_lines (lines_of script.now) (state_for chip.old.core (meaning chip.old.array)))) }
-    ensures stopped { Stopped (state_for chip.old.core (meaning chip.old.array)) (calls_of_lines (lines_of script.now) (state_for chip.old.core (meaning chip.old.array))) (state_for chip.new.core (meaning chip.new.array)) }
+    ensures text { OnOk result (string_bytes out.new ≡ string_bytes out.old ++ told 1 (lines_of script.now) (state_for chip.old.core (D.meaning chip.old.array))) }
+    ensures state { OnOk result (state_for chip.new.core (D.meaning chip.new.array) ≡ state_after (state_for chip.old.core (D.meaning chip.old.array)) (calls_of_lines (lines_of script.now) (state_for chip.old.core (D.meaning chip.old.array)))) }
+    ensures stopped { Stopped (state_for chip.old.core (D.meaning chip.old.array)) (calls_of_lines (lines_of script.now) (state_for chip.old.core (D.meaning chip.old.array))) (state_for chip.new.core (D.meaning chip.new.array)) }
 {
     let mut reader = Reader::new(script);
     while let Some(line) = reader.next_line() {
@@ -130,10 +130,10 @@ pub fn play_script<D: Array>(
     heap: Global,
     script: &[u8],
 ) -> Result<String, AllocError>
-    ensures text { IfOk result (λ out. string_bytes out ≡ transcript script.now (state_for chip.old.core (meaning chip.old.array))) }
-    ensures state { OnOk result (state_for chip.new.core (meaning chip.new.array) ≡ state_after (state_for chip.old.core (meaning chip.old.array)) (calls_of script.now (state_for chip.old.core (meaning chip.old.array)))) }
-    ensures stopped { Stopped (state_for chip.old.core (meaning chip.old.array)) (calls_of script.now (state_for chip.old.core (meaning chip.old.array))) (state_for chip.new.core (meaning chip.new.array)) }
-    ensures promise { OnOk result (Played (state_for chip.old.core (meaning chip.old.array)) (calls_of script.now (state_for chip.old.core (meaning chip.old.array))) (state_for chip.new.core (meaning chip.new.array))) }
+    ensures text { IfOk result (λ out. string_bytes out ≡ transcript script.now (state_for chip.old.core (D.meaning chip.old.array))) }
+    ensures state { OnOk result (state_for chip.new.core (D.meaning chip.new.array) ≡ state_after (state_for chip.old.core (D.meaning chip.old.array)) (calls_of script.now (state_for chip.old.core (D.meaning chip.old.array)))) }
+    ensures stopped { Stopped (state_for chip.old.core (D.meaning chip.old.array)) (calls_of script.now (state_for chip.old.core (D.meaning chip.old.array))) (state_for chip.new.core (D.meaning chip.new.array)) }
+    ensures promise { OnOk result (Played (state_for chip.old.core (D.meaning chip.old.array)) (calls_of script.now (state_for chip.old.core (D.meaning chip.old.array))) (state_for chip.new.core (D.meaning chip.new.array))) }
 {
     let mut out = String::new(heap);
     if is_too_long(script) {

@@ -28,8 +28,8 @@ struct Tally {
 // Ticks until the command ends; how many ticks were answered.
 fn finish<D: Array>(chip: &mut Chip<D>) -> u64
     ensures bound { result ≤ 1056 }
-    ensures ticks { result ≡ answered 1056 (state_for chip.old.core (meaning chip.old.array)) }
-    ensures state { state_for chip.new.core (meaning chip.new.array) ≡ ended 1056 (state_for chip.old.core (meaning chip.old.array)) }
+    ensures ticks { result ≡ answered 1056 (state_for chip.old.core (D.meaning chip.old.array)) }
+    ensures state { state_for chip.new.core (D.meaning chip.new.array) ≡ ended 1056 (state_for chip.old.core (D.meaning chip.old.array)) }
 {
     for k in 0..MOST_TICKS {
         match chip.tick() {
@@ -46,14 +46,14 @@ fn finish<D: Array>(chip: &mut Chip<D>) -> u64
 
 // Writes a word to an address. A write that is refused changes nothing.
 fn put<D: Array>(chip: &mut Chip<D>, address: u16, word: u16)
-    ensures { state_for chip.new.core (meaning chip.new.array) ≡ wrote (state_for chip.old.core (meaning chip.old.array)) address word }
+    ensures { state_for chip.new.core (D.meaning chip.new.array) ≡ wrote (state_for chip.old.core (D.meaning chip.old.array)) address word }
 {
     let _ = chip.write(address, word);
 }
 
 // The word that an address shows, and 0 where the read is refused.
 fn look<D: Array>(chip: &Chip<D>, address: u16) -> u16
-    ensures { result ≡ shown_at (state_for chip.now.core (meaning chip.now.array)) address }
+    ensures { result ≡ shown_at (state_for chip.now.core (D.meaning chip.now.array)) address }
 {
     match chip.read(address) {
         Ok(word) => word,
@@ -64,8 +64,8 @@ fn look<D: Array>(chip: &Chip<D>, address: u16) -> u16
 // Clears the interrupt, writes the command and ticks until it ends; how many ticks were answered.
 fn command<D: Array>(chip: &mut Chip<D>, code: u16) -> u64
     ensures bound { result ≤ 1056 }
-    ensures ticks { result ≡ ticks_taken (state_for chip.old.core (meaning chip.old.array)) code }
-    ensures state { state_for chip.new.core (meaning chip.new.array) ≡ commanded (state_for chip.old.core (meaning chip.old.array)) code }
+    ensures ticks { result ≡ ticks_taken (state_for chip.old.core (D.meaning chip.old.array)) code }
+    ensures state { state_for chip.new.core (D.meaning chip.new.array) ≡ commanded (state_for chip.old.core (D.meaning chip.old.array)) code }
 {
     put(chip, 0xF241, 0x0000);
     put(chip, 0xF220, code);
@@ -74,7 +74,7 @@ fn command<D: Array>(chip: &mut Chip<D>, code: u16) -> u64
 
 // Puts a round's word into the buffer, and chooses both sectors of its page.
 fn prepare<D: Array>(chip: &mut Chip<D>, round: u32)
-    ensures { state_for chip.new.core (meaning chip.new.array) ≡ prepared round (state_for chip.old.core (meaning chip.old.array)) }
+    ensures { state_for chip.new.core (D.meaning chip.new.array) ≡ prepared round (state_for chip.old.core (D.meaning chip.old.array)) }
 {
     put(chip, 0x0200, (round % 65536) as u16);
     put(chip, 0xF100, 1);
@@ -84,8 +84,8 @@ fn prepare<D: Array>(chip: &mut Chip<D>, round: u32)
 
 // One round: a program and a load of a page, and after the last page an erase.
 fn play_round<D: Array>(chip: &mut Chip<D>, round: u32, tally: Tally) -> Tally
-    ensures tally { result ≡ tallied round (state_for chip.old.core (meaning chip.old.array)) tally }
-    ensures state { state_for chip.new.core (meaning chip.new.array) ≡ round_end round (state_for chip.old.core (meaning chip.old.array)) }
+    ensures tally { result ≡ tallied round (state_for chip.old.core (D.meaning chip.old.array)) tally }
+    ensures state { state_for chip.new.core (D.meaning chip.new.array) ≡ round_end round (state_for chip.old.core (D.meaning chip.old.array)) }
 {
     prepare(chip, round);
     let programming = command(chip, 0x0080);
@@ -107,8 +107,8 @@ fn play_round<D: Array>(chip: &mut Chip<D>, round: u32, tally: Tally) -> Tally
 
 // Unlocks both blocks, and plays the rounds.
 fn play<D: Array>(chip: &mut Chip<D>, rounds: u32) -> Tally
-    ensures tally { result ≡ rounds_tally rounds (commanded (ranged (state_for chip.old.core (meaning chip.old.array))) 0x0023) (tally_of (ticks_taken (ranged (state_for chip.old.core (meaning chip.old.array))) 0x0023) 0) }
-    ensures state { state_for chip.new.core (meaning chip.new.array) ≡ rounds_end rounds (commanded (ranged (state_for chip.old.core (meaning chip.old.array))) 0x0023) }
+    ensures tally { result ≡ rounds_tally rounds (commanded (ranged (state_for chip.old.core (D.meaning chip.old.array))) 0x0023) (tally_of (ticks_taken (ranged (state_for chip.old.core (D.meaning chip.old.array))) 0x0023) 0) }
+    ensures state { state_for chip.new.core (D.meaning chip.new.array) ≡ rounds_end rounds (commanded (ranged (state_for chip.old.core (D.meaning chip.old.array))) 0x0023) }
 {
     put(chip, 0xF24C, 0);
     put(chip, 0xF24D, 1);

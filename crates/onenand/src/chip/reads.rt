@@ -13,7 +13,7 @@ use onenand_steps::reads::show;
 impl<D: Array> Chip<D> {
     // The word at an address.
     pub fn read(&self, addr: u16) -> Result<u16, Refusal>
-        ensures { read_reply result ≡ (step (state_for self.now.core (meaning self.now.array)) (read_call addr)).1 }
+        ensures { read_reply result ≡ (step (state_for self.now.core (D.meaning self.now.array)) (read_call addr)).1 }
     {
         show(&self.core, addr)
     }

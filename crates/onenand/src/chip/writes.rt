@@ -27,8 +27,8 @@ fn is_pending(core: &Core, command: Command) -> bool
 impl<D: Array> Chip<D> {
     // Starts a command: it takes its operands, and is checked.
     fn start(&mut self, code: u16)
-        ensures core { self.new.core ≡ (accepted (state_for self.old.core (meaning self.old.array)) code).core }
-        ensures flash { meaning self.new.array ≡ meaning self.old.array }
+        ensures core { self.new.core ≡ (accepted (state_for self.old.core (D.meaning self.old.array)) code).core }
+        ensures flash { D.meaning self.new.array ≡ D.meaning self.old.array }
     {
         let n = self.array.count();
         let plan = plan(
@@ -46,9 +46,9 @@ impl<D: Array> Chip<D> {
 
     // A write to F220h.
     fn accept(&mut self, code: u16) -> Result<(), Refusal>
-        ensures answer { write_reply result ≡ (commanded (state_for self.old.core (meaning self.old.array)) code).1 }
-        ensures core { self.new.core ≡ (commanded (state_for self.old.core (meaning self.old.array)) code).0.core }
-        ensures flash { meaning self.new.array ≡ (commanded (state_for self.old.core (meaning self.old.array)) code).0.array }
+        ensures answer { write_reply result ≡ (commanded (state_for self.old.core (D.meaning self.old.array)) code).1 }
+        ensures core { self.new.core ≡ (commanded (state_for self.old.core (D.meaning self.old.array)) code).0.core }
+        ensures flash { D.meaning self.new.array ≡ (commanded (state_for self.old.core (D.meaning self.old.array)) code).0.array }
     {
         let command = Command::decode(code);
         if self.core.running.is_busy(command) {
@@ -63,9 +63,9 @@ impl<D: Array> Chip<D> {
 
     // Writes a word to an address.
     pub fn write(&mut self, addr: u16, word: u16) -> Result<(), Refusal>
-        ensures answer { write_reply result ≡ (step (state_for self.old.core (meaning self.old.array)) (write_call addr word)).1 }
-        ensures core { self.new.core ≡ (step (state_for self.old.core (meaning self.old.array)) (write_call addr word)).0.core }
-        ensures flash { meaning self.new.array ≡ (step (state_for self.old.core (meaning self.old.array)) (write_call addr word)).0.array }
+        ensures answer { write_reply result ≡ (step (state_for self.old.core (D.meaning self.old.array)) (write_call addr word)).1 }
+        ensures core { self.new.core ≡ (step (state_for self.old.core (D.meaning self.old.array)) (write_call addr word)).0.core }
+        ensures flash { D.meaning self.new.array ≡ (step (state_for self.old.core (D.meaning self.old.array)) (write_call addr word)).0.array }
     {
         match place_of(addr) {
             Place::Data(x) => {
