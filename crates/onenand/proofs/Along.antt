@@ -1,13 +1,14 @@
 -- A tick along a row is the tick of what runs.
-use Rattle.std.proofs.Common.{◌≡◌, ℕ, ◌+◌, ◌-◌, ◌<◌, ◌≤◌, true, List, get_or, set, sym, ap, ◌∙◌, arith}
+use Rattle.std.proofs.Common.{◌≡◌, ℕ, ◌+◌, ◌-◌, ◌<◌, ◌≤◌, true, cond, ltb, List, get_or, set, sym, ap, ◌∙◌, arith}
 use Rattle.std.proofs.lemmas.Bool.{cond-true, lt-ltb}
 use Rattle.flash.specs.Meaning.{Meaning, word_at, programmable, programmed}
 use Rattle.onenand_transfer.specs.declared.Transfer.{Transfer}
 use Rattle.onenand_rules.specs.declared.plans.Plan.{Plan}
-use Rattle.onenand_rules.specs.declared.plans.Running.TheVariants.{Runs}
+use Rattle.onenand_rules.specs.declared.plans.Running.TheVariants.{Idle, Runs}
+use Rattle.onenand_rules.specs.declared.plans.Action.{Action}
 use Rattle.onenand_rules.specs.Plans.{ticks_of}
 use Rattle.onenand_rules.specs.State.{State, state_with}
-use Rattle.onenand_rules.specs.Ticks.{ticked_by, ticked}
+use Rattle.onenand_rules.specs.Ticks.{succeeds, registers_after, acted, closed, failed, ticked}
 use Rattle.onenand_rules.specs.Calls.{Reply, tick}
 use Rattle.onenand_laws.proofs.Faith.{ticks_few}
 use Rattle.onenand_rows.specs.declared.Way.{Way}
@@ -16,6 +17,15 @@ use Rattle.onenand_rows.specs.declared.Row.{Row}
 use Rattle.onenand_rows.specs.Rows.{is_along, Suits}
 use Rattle.onenand_rows.proofs.Rows.{moves, Stands, Leads, leads}
 use Rattle.onenand_steps.specs.Moves.{moved_well, moved_data, moved_array}
+
+-- tick k of a plan, were its action a
+abbrev ticked_by : State → Plan → ℕ → Action → State × Reply
+ticked_by s p k a =
+    cond (succeeds s.array a)
+    (cond (ltb (k + 1) (ticks_of p))
+    (acted s a (registers_after s a) (Runs p (k + 1)), tick 1)
+    (acted s a (closed p (registers_after s a)) Idle, tick 0))
+    (state_with s (failed p s.core.registers) s.core.dataram s.core.locks Idle s.array, tick 0)
 
 -- the state with word o of a row moved, that way, and k ticks had
 abbrev moved : State → Row → ℕ → Way → Plan → ℕ → State

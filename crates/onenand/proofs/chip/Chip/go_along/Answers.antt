@@ -8,8 +8,8 @@ use Rattle.onenand_rows.specs.Rows.{Suits}
 use Rattle.onenand.proofs.Along.{short, along_on}
 use Rattle.onenand.proofs.chip.Chip.go_along.Goals as goal
 
-pub overflow-add-k : goal.overflow-add-k
-overflow-add-k g c =
+pub overflow_add-k : goal.overflow_add-k
+overflow_add-k g c =
     let chip = c.args.self.now in
     let suits = subst (Suits chip.row) c.in-Runs.is chip.suits in
     let h : c.in-Runs.k + 1 ≤ 1056 = short (state_for chip.core (g.D.Array.meaning chip.array)) chip.row c.in-Runs.field-0 c.in-Runs.k suits (sym c.is_along.ensures ∙ c.if-not-is_along.false) in

@@ -18,4 +18,4 @@ returns-clause-writes g c plain ok =
     let e = c.digit-d.ensures in
     has_written_of_eq g.W.Write.write_str_gives c.args.f.now _ _ c.write.new.self
     (four _ _ _ _ _ _ _ _ (one _ _ a.value a.ascii) (one _ _ b.value b.ascii) (one _ _ d.value d.ascii) (one _ _ e.value e.ascii))
-    (c.write.ensures.shows plain ok)
+    (c.write.ensures.writes plain ok)
