@@ -40,8 +40,8 @@ returns-in_err-add_entry g c =
     let more = left c.next_line.new.self in
     let got = c.in-Some.ensures in
     record {
-      text = IfOk-from_err c.from-residual.result _ c.from-residual.ensures.0;
-      state = IfOk-from_err c.from-residual.result _ c.from-residual.ensures.0;
+      text = IfOk-from_err c.from_residual.result _ c.from_residual.ensures.0;
+      state = IfOk-from_err c.from_residual.result _ c.from_residual.ensures.0;
       stopped = way_stopped start there more all (way_on start here there c.in-Some.line.bytes.now (left c.loop-line.reader) more all got.0 c.play_line-entry.ensures.state c.loop-line.invariant.1);
     }
 

@@ -34,10 +34,10 @@ returns-in_err-play_lines g c =
     let script = c.args.script.now in
     let short = sym c.is_too_long.ensures ∙ c.if-is_too_long.false in
     record {
-      text = IfOk-from_err c.from-residual-in_err-play_lines.result _ c.from-residual-in_err-play_lines.ensures.0;
-      state = IfOk-from_err c.from-residual-in_err-play_lines.result _ c.from-residual-in_err-play_lines.ensures.0;
+      text = IfOk-from_err c.from_residual-in_err-play_lines.result _ c.from_residual-in_err-play_lines.ensures.0;
+      state = IfOk-from_err c.from_residual-in_err-play_lines.result _ c.from_residual-in_err-play_lines.ensures.0;
       stopped = subst (λ (cs : List Call). Stopped s cs there) (sym (calls_short script s short)) c.play_lines.ensures.stopped;
-      promise = IfOk-from_err c.from-residual-in_err-play_lines.result _ c.from-residual-in_err-play_lines.ensures.0;
+      promise = IfOk-from_err c.from_residual-in_err-play_lines.result _ c.from_residual-in_err-play_lines.ensures.0;
     }
 
 pub returns : goal.returns
