@@ -255,7 +255,7 @@ fn run(rt: &HostRuntime) -> anyhow::Result<()> {
     stage(
         rt,
         &mut chip,
-        "the last obeyed protection command, F24Eh",
+        "protection",
         &[Call::Read(0xF24E)],
     )?;
     carry_out(rt, &mut chip, &CUT)?;

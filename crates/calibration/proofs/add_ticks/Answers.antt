@@ -9,5 +9,5 @@ loop-i-preserved c =
     let start = vec_items c.args.calls.now in
     c.in_ok-push.ensures.items
     ∙ ap (λ xs. xs ++ (Tick ∷ [])) c.loop-i.invariant
-    ∙ append_assoc start (replicate c.loop-i.-i Tick) (Tick ∷ [])
-    ∙ ap (λ xs. start ++ xs) (replicate_more c.loop-i.-i Tick)
+    ∙ append_assoc start (replicate c.loop-i._i Tick) (Tick ∷ [])
+    ∙ ap (λ xs. start ++ xs) (replicate_more c.loop-i._i Tick)

@@ -30,7 +30,7 @@ unfolding worn
 returns c =
     let chip = c.power_up-chip.result in
     let image = c.new.result in
-    let words = c.new.ensures.words ∙ c.mark.ensures ∙ ap marked (c.as_mut_slice-words.ensures.value ∙ blank_words _ (c.in_ok-words.ensures.items-if-clones-equal (λ y e. e))) in
+    let words = c.new.ensures.words ∙ c.mark.ensures ∙ ap marked (c.as_mut_slice-words.ensures.value ∙ blank_words _ (c.in_ok-words.ensures.items_if_clones_equal (λ y e. e))) in
     let state = stands 0x0004 0x0001 _ (image_meaning image.words.now image.worn.now) chip.core c.power_up-chip.ensures.core c.power_up-chip.ensures.flash ∙ freshly _ _ words c.new.ensures.worn in
     let here = state_for chip.core (image_meaning chip.array.words.now chip.array.worn.now) in
     let read = subst (λ xs. IfOk c.play_script.result (λ out. string_bytes out ≡ transcript xs here)) c.as_bytes.ensures.value c.play_script.ensures.text in
