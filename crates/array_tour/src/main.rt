@@ -123,11 +123,7 @@ fn with_sheets(rt: &HostRuntime) -> anyhow::Result<()> {
     Ok(())
 }
 
-fn run(rt: &HostRuntime) -> anyhow::Result<()> {
-    with_image(rt)?;
-    with_sheets(rt)
-}
-
 fn main(rt: HostRuntime) -> anyhow::Result<()> {
-    run(&rt)
+    with_image(&rt)?;
+    with_sheets(&rt)
 }

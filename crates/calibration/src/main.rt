@@ -242,39 +242,35 @@ fn carry_out<D: Array>(
 }
 
 // Plays January and March, and says whether the calibration is as it was.
-fn run(rt: &HostRuntime) -> anyhow::Result<()> {
+fn main(rt: HostRuntime) -> anyhow::Result<()> {
     let mut words = vec![in rt.alloc(); BLANK; 4 * BLOCK_WORDS]?;
     let worn = [0u8; 4];
     let array = Image::new(words.as_mut_slice(), &worn);
     let mut chip = Chip::power_up(array, 0x0004, 0x0000);
     println!(rt; "January:")?;
-    carry_out(rt, &mut chip, &IN_JANUARY)?;
-    let before = look(rt, &mut chip, 1)?;
+    carry_out(&rt, &mut chip, &IN_JANUARY)?;
+    let before = look(&rt, &mut chip, 1)?;
     println!(rt; "March:")?;
-    carry_out(rt, &mut chip, &IN_MARCH)?;
+    carry_out(&rt, &mut chip, &IN_MARCH)?;
     stage(
-        rt,
+        &rt,
         &mut chip,
         "protection",
         &[Call::Read(0xF24E)],
     )?;
-    carry_out(rt, &mut chip, &CUT)?;
+    carry_out(&rt, &mut chip, &CUT)?;
     stage(
         &rt,
         &mut chip,
         "the mains fail, and come back",
         &[Call::Cold],
     )?;
-    let _ = look(rt, &mut chip, 3)?;
-    let now = look(rt, &mut chip, 1)?;
+    let _ = look(&rt, &mut chip, 3)?;
+    let now = look(&rt, &mut chip, 1)?;
     if are_same(before.as_slice(), now.as_slice()) {
         println!(rt; "January's calibration is as it was, word for word.")
     } else {
         println!(rt; "January's calibration has changed.")
     }?;
     Ok(())
-}
-
-fn main(rt: HostRuntime) -> anyhow::Result<()> {
-    run(&rt)
 }

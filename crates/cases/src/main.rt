@@ -64,16 +64,16 @@ fn play_file(rt: &HostRuntime, file: &str, tally: &mut Tally) -> anyhow::Result<
 }
 
 // Plays the cases of all files that are named, and counts them.
-fn run(rt: &HostRuntime) -> anyhow::Result<()> {
+fn main(rt: HostRuntime) -> anyhow::Result<()> {
     let mut tally = Tally {
         cases: 0,
         differ: 0,
     };
-    for path in env::args(rt)?.skip(1) {
-        let Ok(text) = fs::read_to_string(rt, path.as_str()) else {
+    for path in env::args(&rt)?.skip(1) {
+        let Ok(text) = fs::read_to_string(&rt, path.as_str()) else {
             return Err(anyhow!(format!(in rt.alloc(); "{path} cannot be read, or is no text")?));
         };
-        play_file(rt, text.as_str(), &mut tally)?;
+        play_file(&rt, text.as_str(), &mut tally)?;
     }
     let Tally { cases, differ } = tally;
     println!(rt; "{cases} cases, {differ} differ")?;
@@ -84,8 +84,4 @@ fn run(rt: &HostRuntime) -> anyhow::Result<()> {
         return Err(anyhow!("some cases differ"));
     }
     Ok(())
-}
-
-fn main(rt: HostRuntime) -> anyhow::Result<()> {
-    run(&rt)
 }

@@ -1,4 +1,6 @@
 // What a flash array is: the trait that every array implements, the sizes of its parts, and what arrays share.
+#![tactic(auto)]
+
 ghost use Rattle.std.specs.Prelude.{◌≡◌, ℕ, ◌-◌, ◌^◌, ◌<◌, ◌≤◌, length};
 ghost use Rattle.flash.specs.Geometry.{max_blocks, main_word, spare_word};
 ghost use Rattle.flash.specs.Meaning.{Meaning, word_at, outcome_of, programmable, after_program, erasable, after_erase};

@@ -1,19 +1,19 @@
 -- What reads, programs and erases of the caller's words do to the image's meaning.
-use Rattle.std.proofs.Common.{◌≡◌, ℕ, ◌+◌, ◌*◌, ◌/◌, ◌%◌, ◌^◌, ◌<◌, ◌≤◌, Bool, true, false, cond, not, ◌&&◌, eqb, ltb, leb, List, length, get_or, set, sym, refl, ap, ◌∙◌, ⊎_elim, arith}
+use Rattle.std.proofs.Common.{◌≡◌, ℕ, ◌+◌, ◌*◌, ◌/◌, ◌%◌, ◌^◌, ◌<◌, ◌≤◌, true, false, cond, not, ◌&&◌, eqb, ltb, leb, List, length, get_or, set, sym, ap, ◌∙◌, ⊎_elim, arith}
 use mathlib.Core.Path.{fun_ext}
 use lib.Bits.{bit_and}
 use Rattle.std.proofs.lemmas.List.{length-set, get_or-set_same, get_or-set_other, get_or_default}
 use Rattle.std.proofs.lemmas.Bool.{cond_both, cond-true, cond-false, cases_Bool, cases_eq, and_parts, ltb-true}
 use Rattle.std.proofs.lemmas.Bool.Decides.{nat_tests}
 use Rattle.flash.specs.Geometry.{max_blocks, block_pages, page_words, block_words, blank_word, bits16}
-use Rattle.flash.specs.Meaning.{Meaning, word_at, in_range, programmable, programmed, after_program, erasable, erased, after_erase}
+use Rattle.flash.specs.Meaning.{word_at, in_range, programmable, programmed, after_program, erasable, erased, after_erase}
 use Rattle.flash.specs.Runs.{filled}
 use Rattle.flash.proofs.Bits.{and_16}
 use Rattle.flash.proofs.Runs.{length-filled, get_or-filled}
 use Rattle.image.specs.Layout.{place}
 use Rattle.image.specs.Checks.{whole_blocks, byte_each}
 use Rattle.image.specs.Contents.{blocks, image_meaning, word_held, words_programmed, words_erased}
-use Rattle.image.specs.Bounds.{Whole, whole}
+use Rattle.image.specs.Bounds.{whole}
 
 -- the count goes by how many words there are
 blocks_same : (xs ws wn : List ℕ) → length xs ≡ length ws → blocks xs wn ≡ blocks ws wn

@@ -1,5 +1,5 @@
 -- What the caller's words and worn list mean, and what programs and erases leave of the words.
-use Rattle.std.specs.Prelude.{ℕ, ◌*◌, Bool, true, false, cond, not, ◌&&◌, List, length, Some, None, Option, ◌==◌, bit_and, nat_lt, slice_index, slice_index_or, slice_set}
+use Rattle.std.specs.Prelude.{ℕ, ◌*◌, Bool, cond, not, ◌&&◌, List, length, Some, None, Option, ◌==◌, bit_and, nat_lt, slice_index, slice_index_or, slice_set}
 use Rattle.flash.specs.Geometry.{block_pages, page_words, block_words, blank_word, bits16}
 use Rattle.flash.specs.Meaning.{Meaning, in_range, programmable, erasable}
 use Rattle.flash.specs.Runs.{filled}

@@ -1,4 +1,6 @@
 // The image: a flash array in words that the caller lends, with a worn list beside them.
+#![tactic(auto)]
+
 ghost use Rattle.std.specs.Prelude.{◌≡◌, length, is_some, if◌then◌else◌};
 ghost use Rattle.flash.specs.Meaning.{word_at, outcome_of, programmable, after_program, erasable, after_erase};
 ghost use Rattle.flash.specs.Refusals.{refusal};

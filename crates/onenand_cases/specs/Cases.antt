@@ -1,13 +1,12 @@
 -- Cases that were checked by hand, as statements about the definition of the chip.
-use Rattle.std.specs.Prelude.{◌≡◌, List, [], ◌∷◌, ◌++◌, true, false, ℕ, ◌+◌, ◌*◌, replicate}
+use Rattle.std.specs.Prelude.{◌≡◌, List, [], ◌∷◌, ◌++◌, false, ℕ, ◌+◌, ◌*◌, replicate}
 use Rattle.flash.specs.Meaning.{Meaning}
 use Rattle.image.specs.Layout.{in_block, place}
-use Rattle.onenand_protection.specs.declared.Lock.{Lock}
 use Rattle.onenand_protection.specs.declared.Lock.TheVariants.{Locked, Unlocked}
 use Rattle.onenand_rules.specs.declared.calls.Call.{Call}
 use Rattle.onenand_rules.specs.declared.calls.Call.TheVariants.{Read, Write, Tick}
 use Rattle.onenand_rules.specs.State.{State}
-use Rattle.onenand_rules.specs.Calls.{Reply, word, done, tick, refused}
+use Rattle.onenand_rules.specs.Calls.{Reply, word, tick, refused}
 use Rattle.onenand_rules.specs.Resets.{powered_up}
 use Rattle.onenand_rules.specs.Steps.{step, after, replies}
 

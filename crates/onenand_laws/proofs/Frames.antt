@@ -26,7 +26,7 @@ use Rattle.onenand_rules.specs.Calls.{Reply, tick, refused, done}
 use Rattle.onenand_rules.specs.Writes.{pending, plan_for, accepted, commanded, stored}
 use Rattle.onenand_rules.specs.Ticks.{succeeds, array_after, registers_after, acted, closed, failed, ticked}
 use Rattle.onenand_rules.specs.Steps.{step}
-use Rattle.onenand_laws.specs.Frames.{SameDevice, SameSizes, LeftByWrite, LeftByWarm, Within, Frames}
+use Rattle.onenand_laws.specs.Frames.{SameDevice, SameSizes, LeftByWrite, Within, Frames}
 
 -- a state with other registers, RAM, block states, running command and array is of the same device
 same_device : (s : State) (r : Registers) (d : List ℕ) (t : List Lock) (u : Running) (m : Meaning) → SameDevice s (state_with s r d t u m)

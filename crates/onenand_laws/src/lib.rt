@@ -1,4 +1,6 @@
 // Laws of the definition of the chip: what each call leaves as it was, and the promise over runs.
+#![tactic(auto)]
+
 ghost use Rattle.onenand_laws.specs.Frames.{Frames};
 ghost use Rattle.onenand_laws.specs.Promise.{Promised};
 ghost use Rattle.onenand_rules.specs.State.{State};

@@ -1,4 +1,6 @@
 // Block protection: each block is locked, unlocked or tight, and three commands change that over a range of blocks.
+#![tactic(auto)]
+
 ghost use Rattle.std.specs.Prelude.{◌≡◌, ◌-◌, ◌<◌};
 ghost use Rattle.onenand_protection.specs.Protection.{is_tight, is_unlocked, lock_at, tight_among, hindered, obeyed, lock_made, table_made, table_after, protection_word};
 

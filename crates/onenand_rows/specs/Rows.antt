@@ -1,10 +1,9 @@
 -- Rows of a transfer's words, and when a row suits what runs.
-use Rattle.std.specs.Prelude.{◌≡◌, ℕ, ◌-◌, ◌%◌, Bool, true, false, cond, ◌&&◌, nat_le, nat_lt}
+use Rattle.std.specs.Prelude.{◌≡◌, ℕ, ◌-◌, ◌%◌, Bool, cond, ◌&&◌, nat_le, nat_lt}
 use Rattle.onenand_transfer.specs.declared.Part.{Part}
 use Rattle.onenand_transfer.specs.declared.Part.TheVariants.{Whole, Spare}
 use Rattle.onenand_transfer.specs.declared.Transfer.{Transfer}
 use Rattle.onenand_transfer.specs.Transfers.{words, page_of, page_word, buffer_word}
-use Rattle.onenand_rules.specs.declared.plans.Plan.{Plan}
 use Rattle.onenand_rules.specs.declared.plans.Plan.TheVariants.{Fails, Loads, Programs, Copies, Erases, Verifies, Protects, Resets}
 use Rattle.onenand_rules.specs.declared.plans.Running.{Running}
 use Rattle.onenand_rules.specs.declared.plans.Running.TheVariants.{Idle, Runs}

@@ -1,5 +1,7 @@
 // Rows: words of a transfer that stand one after another, in their page and in DataRAM alike. A tick that goes along a
 // row need not work out where its word stands.
+#![tactic(auto)]
+
 ghost use Rattle.std.specs.Prelude.{◌≡◌};
 ghost use Rattle.onenand_rows.specs.Rows.{row_length, row_at, no_row, row_of, is_along, Suits};
 

@@ -1,5 +1,5 @@
 -- One call, and a list of calls.
-use Rattle.std.specs.Prelude.{ℕ, List, [], ◌∷◌}
+use Rattle.std.specs.Prelude.{List, [], ◌∷◌}
 use Rattle.onenand_registers.specs.Addresses.{place_of}
 use Rattle.onenand_rules.specs.declared.calls.Call.{Call}
 use Rattle.onenand_rules.specs.declared.calls.Call.TheVariants.{Read, Write, Tick, Warm, Cold}

@@ -16,7 +16,7 @@ use Rattle.onenand_rules.specs.declared.plans.Action.TheVariants.{Fail, Wait, Lo
 use Rattle.onenand_rules.specs.declared.state.Core.{Core}
 use Rattle.onenand_rules.specs.Commands.{raised, error_status}
 use Rattle.onenand_rules.specs.Plans.{ticks_of, action_of, plan_kind, plan_fault, is_hot}
-use Rattle.onenand_rules.specs.State.{State, state_for, core_with, state_with}
+use Rattle.onenand_rules.specs.State.{State, state_for, state_with}
 use Rattle.onenand_rules.specs.Calls.{Reply, tick, refused}
 
 -- the array word that word i of a transfer is

@@ -1,6 +1,6 @@
 -- Transfers between a page and DataRAM: which words move, in which order, and which sectors are taken meanwhile.
 -- f107 stands for the word of F107h (or F103h), f200 for that of F200h.
-use Rattle.std.specs.Prelude.{ℕ, ◌+◌, ◌-◌, ◌*◌, ◌/◌, ◌%◌, Bool, true, false, cond, ◌&&◌, ◌||◌, ◌==◌, nat_lt}
+use Rattle.std.specs.Prelude.{ℕ, ◌+◌, ◌-◌, ◌*◌, ◌/◌, ◌%◌, Bool, cond, ◌&&◌, ◌||◌, ◌==◌, nat_lt}
 use Rattle.onenand_registers.specs.Bits.{bit, is_set}
 use Rattle.onenand_transfer.specs.declared.Part.{Part}
 use Rattle.onenand_transfer.specs.declared.Part.TheVariants.{Whole, Spare}

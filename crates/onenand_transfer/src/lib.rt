@@ -1,4 +1,6 @@
 // Transfers between a page and DataRAM: which words move, in which order, and which sectors are taken meanwhile.
+#![tactic(auto)]
+
 ghost use Rattle.std.specs.Prelude.{◌≡◌, ℕ, ◌^◌, ◌<◌, ◌≤◌};
 ghost use Rattle.onenand_transfer.specs.Transfers.{size, words as word_count, counted, sector_word, buffer_sector, page_word, buffer_word, sector_of, chosen};
 

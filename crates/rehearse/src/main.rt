@@ -30,8 +30,9 @@ const SHEETS: [Sheet; 2] = [
     },
 ];
 
-// Reads the script, plays it and prints what came.
-fn run(rt: &HostRuntime) -> io::Result<()> {
+// Reads the script, plays it and prints what came. A script that cannot be read, and a transcript that cannot be written,
+// are told on standard error.
+fn main(rt: HostRuntime) -> io::Result<()> {
     // One byte more than a script may have shows that it is too long.
     let mut script = Vec::new(rt.alloc());
     rt.stdin()
@@ -46,9 +47,4 @@ fn run(rt: &HostRuntime) -> io::Result<()> {
     );
     let transcript = play_script(&mut chip, rt.alloc(), script.as_slice())?;
     print!(rt; "{transcript}")
-}
-
-// A script that cannot be read, and a transcript that cannot be written, are told on standard error.
-fn main(rt: HostRuntime) -> io::Result<()> {
-    run(&rt)
 }

@@ -1,4 +1,6 @@
 // The lines of a transcript: what each says, and its text.
+#![tactic(auto)]
+
 mod entries;
 mod faults;
 mod words;

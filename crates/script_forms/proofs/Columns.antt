@@ -1,8 +1,8 @@
 -- The column of a line that is no form.
-use Rattle.std.proofs.Common.{◌≡◌, ℕ, zero, suc, ◌+◌, ◌-◌, ◌<◌, ◌≤◌, max, Bool, true, false, cond, eqb, List, [], ◌∷◌, ◌++◌, length, take, drop, sym, refl, ap, ◌∙◌, subst, inl, inr, ⊎_elim, arith, eq-eqb, eqb-true}
+use Rattle.std.proofs.Common.{◌≡◌, ℕ, zero, suc, ◌+◌, ◌-◌, ◌<◌, ◌≤◌, max, Bool, true, false, cond, eqb, List, [], ◌∷◌, ◌++◌, length, take, drop, refl, ap, ◌∙◌, subst, inl, inr, ⊎_elim, arith, eq-eqb, eqb-true}
 use Rattle.std.proofs.str.Laws.{order}
 use Rattle.script_forms.specs.Shapes.{read_shape, write_shape, tick_shape, warm_shape, cold_shape, is_digit, fits, agreed, has_shape, begun}
-use Rattle.script_forms.specs.Grammar.{Asked, read, write, tick, warm, cold, form_of, number_at}
+use Rattle.script_forms.specs.Grammar.{read, write, tick, warm, cold, number_at}
 use Rattle.script_forms.specs.Laws.{IsForm, Begins, ColumnIsFirst}
 use Rattle.script_forms.proofs.Choosing.{both, first_of, second_of, Any, some, which, refuses}
 

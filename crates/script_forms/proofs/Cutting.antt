@@ -1,7 +1,7 @@
 -- A script's lines, of the script.
-use Rattle.std.proofs.Common.{◌≡◌, ℕ, ◌<◌, Bool, true, false, cond, eqb, ◌⊎◌, List, [], ◌∷◌, ◌++◌, length, sym, refl, ap, ◌∙◌, inl, inr, arith, eqb-true}
+use Rattle.std.proofs.Common.{◌≡◌, ℕ, Bool, true, false, cond, eqb, ◌⊎◌, List, [], ◌∷◌, ◌++◌, sym, refl, ap, inl, inr, arith, eqb-true}
 use Rattle.script_forms.specs.Lines.{onto, lines_of}
-use Rattle.script_forms.specs.Laws.{ended, NoFeed, NoFeeds, LastSome, LinesAreTheScript}
+use Rattle.script_forms.specs.Laws.{ended, NoFeeds, LastSome, LinesAreTheScript}
 
 abbrev Whole : List ℕ → List (List ℕ) → Type 0
 Whole bs ls = (ended ls ≡ bs) ⊎ ((ended ls ≡ bs ++ 10 ∷ []) × LastSome ls)

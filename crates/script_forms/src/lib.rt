@@ -1,4 +1,6 @@
 // The forms of a script: its lines one by one, and what each of them asks.
+#![tactic(auto)]
+
 mod forms;
 mod laws;
 mod lines;

@@ -1,18 +1,18 @@
 -- What reads, programs and erases of the caller's lists do to the meaning of a sheet array.
-use Rattle.std.proofs.Common.{◌≡◌, ℕ, zero, suc, ◌+◌, ◌*◌, ◌%◌, ◌^◌, ◌<◌, ◌≤◌, Bool, true, false, cond, not, ◌&&◌, eqb, ltb, leb, List, [], ◌∷◌, map, length, get_or, set, sym, refl, ap, ◌∙◌, ap₂, ⊎_elim, arith}
+use Rattle.std.proofs.Common.{◌≡◌, ℕ, zero, suc, ◌+◌, ◌*◌, ◌^◌, ◌<◌, ◌≤◌, Bool, true, false, cond, not, ◌&&◌, eqb, ltb, leb, List, [], ◌∷◌, map, length, get_or, set, sym, refl, ap, ◌∙◌, ap₂, ⊎_elim, arith}
 use mathlib.Core.Path.{fun_ext}
 use lib.Bits.{bit_and}
 use Rattle.std.proofs.lemmas.List.{length-set, length-map, get_or-set_same, get_or-set_other, get_or_default, get_or_past}
 use Rattle.std.proofs.lemmas.Bool.{cond_both, cond-true, cond-false, cases_Bool, cases_eq, cases_lt}
 use Rattle.std.proofs.lemmas.Bool.Decides.{nat_tests}
 use Rattle.flash.specs.Geometry.{max_blocks, page_words, blank_word, bits16}
-use Rattle.flash.specs.Meaning.{Meaning, word_at, programmable, programmed, after_program, erasable, erased, after_erase}
+use Rattle.flash.specs.Meaning.{word_at, programmable, programmed, after_program, erasable, erased, after_erase}
 use Rattle.flash.specs.Runs.{filled}
 use Rattle.flash.proofs.Bits.{and_16}
 use Rattle.flash.proofs.Runs.{length-filled, get_or-filled}
 use Rattle.sheets.specs.declared.Sheet.{Sheet}
-use Rattle.sheets.specs.Pages.{no_sheet, is_of, first_of, has_sheet, mark}
-use Rattle.sheets.specs.Checks.{max_sheets, lists_fit}
+use Rattle.sheets.specs.Pages.{no_sheet, first_of, mark}
+use Rattle.sheets.specs.Checks.{max_sheets}
 use Rattle.sheets.specs.Contents.{blocks, place, sheet_word, sheet_meaning, word_held, written, opened, words_opened, word_stored, sheets_programmed, words_programmed, unmarked, sheets_erased}
 use Rattle.sheets.proofs.Finding.{first_is_of, first_of_one, first_set, first_unmarked}
 

@@ -1,10 +1,10 @@
 -- A list of sheets that passes the check has one sheet a page.
-use Rattle.std.proofs.Common.{◌≡◌, ℕ, zero, suc, ◌+◌, ◌<◌, Bool, true, false, cond, not, ◌&&◌, eqb, ltb, leb, List, [], ◌∷◌, length, get_or, Some, None, Option, sym, refl, ap, ◌∙◌, subst, ⊎_elim, arith}
+use Rattle.std.proofs.Common.{◌≡◌, ℕ, zero, suc, ◌<◌, true, false, List, [], ◌∷◌, length, get_or, Some, None, ap, ◌∙◌, ⊎_elim, arith}
 use Rattle.std.proofs.lemmas.Bool.{cond-true, cond-false, cases_Bool}
 use Rattle.std.proofs.lemmas.Bool.Decides.{nat_tests}
 use Rattle.flash.specs.Geometry.{block_pages}
 use Rattle.sheets.specs.declared.Sheet.{Sheet}
-use Rattle.sheets.specs.Pages.{no_sheet, is_of, first_of, has_sheet, sheet_of}
+use Rattle.sheets.specs.Pages.{no_sheet, is_of, first_of, has_sheet}
 use Rattle.sheets.specs.Checks.{good_after, good_sheets}
 use Rattle.sheets.specs.Laws.{OwnsPage}
 use Rattle.sheets.proofs.Walks.{has_more}

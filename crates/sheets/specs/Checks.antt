@@ -1,5 +1,5 @@
 -- What the check of a list of sheets answers, and what it leaves in the scratch.
-use Rattle.std.specs.Prelude.{ℕ, suc, ◌+◌, ◌*◌, Bool, true, false, cond, not, ◌&&◌, List, [], ◌∷◌, length, take, set, Some, None, Option, ◌==◌, nat_le, nat_lt, slice_index, slice_set}
+use Rattle.std.specs.Prelude.{ℕ, suc, ◌+◌, ◌*◌, Bool, true, false, cond, not, ◌&&◌, List, [], ◌∷◌, length, take, Some, None, Option, ◌==◌, nat_le, nat_lt, slice_index, slice_set}
 use Rattle.flash.specs.Geometry.{max_blocks, block_pages, page_words}
 use Rattle.flash.specs.Runs.{filled}
 use Rattle.sheets.specs.declared.Sheet.{Sheet}

@@ -1,5 +1,5 @@
 -- What a list of sheets with its words means, and what programs and erases leave of both.
-use Rattle.std.specs.Prelude.{ℕ, ◌+◌, ◌*◌, Bool, true, false, cond, not, ◌&&◌, List, map, length, set, ◌==◌, bit_and, nat_lt, slice_index, slice_index_or, slice_set}
+use Rattle.std.specs.Prelude.{ℕ, ◌+◌, ◌*◌, Bool, false, cond, not, ◌&&◌, List, map, ◌==◌, bit_and, nat_lt, slice_index, slice_index_or, slice_set}
 use Rattle.flash.specs.Geometry.{page_words, blank_word, bits16}
 use Rattle.flash.specs.Meaning.{Meaning, programmable, erasable}
 use Rattle.flash.specs.Runs.{filled}

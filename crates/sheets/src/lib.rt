@@ -1,4 +1,6 @@
 // The sheet array: a flash array of which only some pages are there, each a sheet that the caller lends with its words.
+#![tactic(auto)]
+
 ghost use Rattle.std.specs.Prelude.{◌≡◌, ℕ, suc, ◌+◌, ◌*◌, ◌<◌, ◌≤◌, true, false, [], map, length, take, drop, is_ok, if◌then◌else◌, Some, None, ◌==◌, slice_set};
 ghost use Rattle.flash.specs.Geometry.{block_pages, page_words};
 ghost use Rattle.flash.specs.Meaning.{word_at, outcome_of, programmable, after_program, erasable, after_erase};

@@ -131,8 +131,8 @@ fn rounds_asked(rt: &HostRuntime) -> anyhow::Result<u32> {
     }
 }
 
-fn run(rt: &HostRuntime) -> anyhow::Result<()> {
-    let rounds = rounds_asked(rt)?;
+fn main(rt: HostRuntime) -> anyhow::Result<()> {
+    let rounds = rounds_asked(&rt)?;
     let mut words = vec![in rt.alloc(); BLANK; 2 * BLOCK_WORDS]?;
     let worn = [0u8; 2];
     let array = Image::new(words.as_mut_slice(), &worn);
@@ -140,8 +140,4 @@ fn run(rt: &HostRuntime) -> anyhow::Result<()> {
     let tally = play(&mut chip, rounds);
     println!(rt; "ticks {}\nchecksum {:08X}", tally.ticks, tally.checksum)?;
     Ok(())
-}
-
-fn main(rt: HostRuntime) -> anyhow::Result<()> {
-    run(&rt)
 }

@@ -1,5 +1,4 @@
 use mathlib.Core.Path.{refl}
-use native.Mathlib.Omega.{arith}
 use Rattle.onenand_protection.specs.Protection.{tight_among}
 use Rattle.onenand_transfer.specs.Transfers.{size, page_word, buffer_word, chosen}
 use Rattle.onenand_cases.proofs.hand_checked.Goals as goal

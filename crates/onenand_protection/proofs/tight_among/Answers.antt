@@ -1,4 +1,4 @@
-use Rattle.std.proofs.Common.{◌≡◌, ◌+◌, ◌-◌, ◌||◌, sym, ap, ◌∙◌}
+use Rattle.std.proofs.Common.{◌+◌, ◌-◌, ◌||◌, sym, ap, ◌∙◌}
 use Rattle.onenand_protection.specs.Protection.{tight_among, lock_at, is_tight}
 use Rattle.onenand_protection.proofs.Tables.{tight_more, tight_none}
 use Rattle.onenand_protection.proofs.tight_among.Goals as goal

@@ -1,5 +1,4 @@
-use Rattle.std.proofs.Common.{◌≡◌, ◌^◌, ◌<◌, sym, refl, ◌∙◌, subst, arith}
-use Rattle.image.specs.Contents.{word_held}
+use Rattle.std.proofs.Common.{◌^◌, ◌<◌, refl, ◌∙◌, subst, arith}
 use Rattle.image.proofs.Changes.{held_is}
 use Rattle.image.proofs.ImageArray.read.Goals as goal
 

@@ -1,4 +1,4 @@
-use Rattle.std.proofs.Common.{sym, ◌∙◌, arith}
+use Rattle.std.proofs.Common.{sym, arith}
 use Rattle.script_forms.proofs.Walks.{agreed_more, agreed_differs, agreed_past_shape, agreed_past_line}
 use Rattle.script_forms.proofs.shapes.agreement.Goals as goal
 
