@@ -1,4 +1,6 @@
 // What a caller that lends its memory to an array finds in it afterwards, and the arrays at the edges of their sizes.
+#![tactic(auto)]
+
 ghost use Rattle.std.specs.Prelude.{◌≡◌};
 ghost use Rattle.image.specs.Contents.{words_programmed as image_programmed, words_erased as image_erased};
 ghost use Rattle.sheets.specs.Contents.{sheets_programmed, words_programmed as sheet_words_programmed, sheets_erased};

@@ -1,4 +1,6 @@
 // Takes a calibration table through a flash array and prints what programming and erasing do to it: in an image, then in sheets.
+#![tactic(auto)]
+
 ghost use Rattle.std.specs.Prelude.{◌≡◌, [], ◌∷◌, OnOk};
 ghost use Rattle.array_tour.specs.Tables.{stored, four_words, told, toured};
 

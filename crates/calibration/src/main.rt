@@ -1,5 +1,7 @@
 // A rehearsal of one question. January's calibration stands in a block that is made lock-tight. An upgrade programs and
 // erases other blocks, tries the protected one, and the mains fail inside a program. Is the calibration as it was?
+#![tactic(auto)]
+
 ghost use Rattle.std.specs.Prelude.{◌≡◌, ◌&&◌, ◌++◌, length, replicate, IfOk, OnOk, ◌==◌};
 ghost use Rattle.onenand_rules.specs.declared.calls.Call.TheVariants.{Tick as tick_call};
 ghost use Rattle.onenand_rules.specs.State.{state_for};
@@ -252,12 +254,7 @@ fn main(rt: HostRuntime) -> anyhow::Result<()> {
     let before = look(&rt, &mut chip, 1)?;
     println!(rt; "March:")?;
     carry_out(&rt, &mut chip, &IN_MARCH)?;
-    stage(
-        &rt,
-        &mut chip,
-        "protection",
-        &[Call::Read(0xF24E)],
-    )?;
+    stage(&rt, &mut chip, "protection", &[Call::Read(0xF24E)])?;
     carry_out(&rt, &mut chip, &CUT)?;
     stage(
         &rt,

@@ -1,5 +1,5 @@
 -- How a case is written.
-use Rattle.std.specs.Prelude.{◌≡◌, ℕ, ◌<◌, List, ◌∷◌, ◌++◌, length, ◌≢◌, slice_index}
+use Rattle.std.specs.Prelude.{ℕ, ◌<◌, List, ◌∷◌, ◌++◌, length, ◌≢◌, slice_index}
 
 -- a text of one line
 abbrev pub OneLine : List ℕ → Type 0

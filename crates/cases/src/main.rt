@@ -1,5 +1,7 @@
 // Plays the cases of the files that it is given, each on a chip of its own, and says of each whether the chip's
 // transcript is the one that the case has.
+#![tactic(auto)]
+
 mod case;
 mod chips;
 mod tally;

@@ -1,4 +1,6 @@
 // The chip over any array, and its calls.
+#![tactic(auto)]
+
 mod chip;
 
 pub use chip::Chip;

@@ -1,4 +1,6 @@
 // Lists of calls put to a chip.
+#![tactic(auto)]
+
 ghost use Rattle.std.specs.Prelude.{◌≡◌, ◌++◌, map, IfOk, OnOk};
 ghost use Rattle.onenand_rules.specs.State.{state_for};
 ghost use Rattle.onenand_rules.specs.Calls.{reply_of};

@@ -1,5 +1,7 @@
 // Plays the script on standard input on a chip, and prints the transcript. The chip stands over two blocks whose first
 // pages have a sheet each, both blank.
+#![tactic(auto)]
+
 use flash::PAGE_WORDS;
 use onenand::Chip;
 use script::{MAX_BYTES, play_script};

@@ -1,6 +1,5 @@
 -- Lines, and the lines after them.
-use Rattle.std.proofs.Common.{◌≡◌, ℕ, suc, ◌+◌, List, [], ◌∷◌, ◌++◌, length, sym, ap, ◌∙◌, append_assoc, arith}
-use Rattle.onenand_rules.specs.State.{State}
+use Rattle.std.proofs.Common.{◌≡◌, suc, ◌+◌, [], ◌∷◌, ◌++◌, length, sym, ap, ◌∙◌, append_assoc, arith}
 use Rattle.onenand_rules.specs.Steps.{after}
 use Rattle.script_forms.specs.Grammar.{form_of}
 use Rattle.script_entries.specs.Texts.{line_of}

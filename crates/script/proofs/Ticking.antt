@@ -1,5 +1,5 @@
 -- One tick more of those that a form asks for.
-use Rattle.std.proofs.Common.{◌≡◌, ℕ, suc, ◌+◌, ◌-◌, ◌<◌, Bool, true, false, cond, not, List, [], ◌∷◌, sym, refl, ap, ◌∙◌, arith}
+use Rattle.std.proofs.Common.{◌≡◌, ℕ, suc, ◌+◌, ◌-◌, ◌<◌, Bool, true, false, cond, not, [], sym, refl, ap, ◌∙◌, arith}
 use Rattle.onenand_rules.specs.declared.calls.Call.TheVariants.{Tick}
 use Rattle.onenand_rules.specs.State.{State}
 use Rattle.onenand_rules.specs.Steps.{step, after}

@@ -1,4 +1,6 @@
 // Scripts played on a chip: what each line does, and the transcript.
+#![tactic(auto)]
+
 mod laws;
 
 ghost use Rattle.std.specs.Prelude.{◌≡◌, not, ◌++◌, IfOk, string_bytes, OnOk};

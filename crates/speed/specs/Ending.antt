@@ -1,5 +1,5 @@
 -- Ticks that are put until a command ends.
-use Rattle.std.specs.Prelude.{ℕ, zero, suc, Bool, true, false, cond, ◌==◌}
+use Rattle.std.specs.Prelude.{ℕ, zero, suc, Bool, false, cond, ◌==◌}
 use Rattle.onenand_rules.specs.declared.calls.Call.TheVariants.{Tick}
 use Rattle.onenand_rules.specs.State.{State}
 use Rattle.onenand_rules.specs.Calls.{Reply, word, done, tick, refused}

@@ -1,6 +1,8 @@
 // A load for measuring the chip: each round programs and loads a page of block 1, and the block is erased when its pages
 // are used up. Prints how many ticks were answered, and a checksum over the words that were loaded. The argument is the
 // number of rounds.
+#![tactic(auto)]
+
 ghost use Rattle.std.specs.Prelude.{◌≡◌, ◌≤◌};
 ghost use Rattle.onenand_rules.specs.State.{state_for};
 ghost use Rattle.speed.specs.Ending.{answered, ended};

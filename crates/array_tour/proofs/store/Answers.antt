@@ -1,4 +1,4 @@
-use Rattle.std.proofs.Common.{◌+◌, drop, sym, ap, ◌∙◌}
+use Rattle.std.proofs.Common.{◌+◌, drop, ap, ◌∙◌}
 use Rattle.array_tour.specs.Tables.{stored}
 use Rattle.array_tour.proofs.Storing.{store_more, store_all}
 use Rattle.array_tour.proofs.store.Goals as goal

@@ -1,6 +1,5 @@
 use Rattle.std.proofs.Common.{[], ◌∷◌, ◌++◌, replicate, vec_items, ap, ◌∙◌}
 use Rattle.std.proofs.lemmas.List.{append_assoc, replicate_more}
-use Rattle.onenand_rules.specs.declared.calls.Call.{Call}
 use Rattle.onenand_rules.specs.declared.calls.Call.TheVariants.{Tick}
 use Rattle.calibration.proofs.add_ticks.Goals as goal
 

@@ -1,8 +1,5 @@
-use Rattle.std.proofs.Common.{◌≡◌, true, false, not, sym, ◌∙◌, arith}
-use Rattle.onenand_rules.specs.declared.calls.Call.TheVariants.{Tick}
+use Rattle.std.proofs.Common.{sym, ◌∙◌, arith}
 use Rattle.onenand_rules.specs.State.{state_for}
-use Rattle.onenand_rules.specs.Steps.{step}
-use Rattle.script.specs.Puts.{is_refused}
 use Rattle.script.proofs.Ticking.{ran_on, state_on, ran_up, state_up, not_true, not_false}
 use Rattle.script.proofs.run_ticks.Goals as goal
 

@@ -1,5 +1,4 @@
-use Rattle.std.proofs.Common.{◌≡◌, ◌+◌, ◌≤◌, sym, ap, ◌∙◌, subst, arith}
-use Rattle.onenand_rules.specs.declared.plans.Running.{Running}
+use Rattle.std.proofs.Common.{◌+◌, ◌≤◌, sym, ap, ◌∙◌, subst, arith}
 use Rattle.onenand_rules.specs.declared.plans.Running.TheVariants.{Runs}
 use Rattle.onenand_rules.specs.State.{State, state_for, core_with}
 use Rattle.onenand_rules.specs.Ticks.{ticked}
