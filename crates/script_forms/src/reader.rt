@@ -1,11 +1,10 @@
 // The reader of a script.
-ghost use Rattle.std.specs.Prelude.{ℕ, ◌≤◌, length};
+ghost use Rattle.std.specs.Prelude.{ℕ, ◌+◌, ◌^◌, ◌<◌, length};
 
-// A script's bytes, how far they have been read, and how many lines that were.
+// What has yet to be read of a script, and how many lines have been.
 #[derive(Drop)]
 pub struct Reader<'a> {
-    pub(crate) script: &'a [u8],
-    pub(crate) at: usize,
+    pub(crate) rest: &'a [u8],
     pub(crate) lines: usize,
-    ghost placed: { (lines ≤ at) × (at ≤ length script.now) },
+    ghost countable: { lines + length rest.now < 2 ^ 64 },
 }
