@@ -14,3 +14,8 @@ onto b (l ∷ ls) = (b ∷ l) ∷ ls
 abbrev pub lines_of : List ℕ → List (List ℕ)
 lines_of [] = []
 lines_of (b ∷ bs) = cond (b == 10) ([] ∷ lines_of bs) (onto b (lines_of bs))
+
+-- a script on the way: the lines that are left, and how many have been read
+pub record Reading : Type 0 where
+  pub left : List (List ℕ)
+  pub lines : ℕ

@@ -3,7 +3,7 @@ ghost use Rattle.std.specs.Prelude.{◌≡◌};
 ghost use Rattle.std.specs.List.{before_first, after_first};
 ghost use Rattle.std.specs.Iterator.{item_count};
 ghost use Rattle.script_forms.specs.Lines.{lines_of, is_feed};
-ghost use Rattle.script_forms.specs.Parts.{left, GivesLine};
+ghost use Rattle.script_forms.specs.Parts.{GivesLine};
 
 use crate::parts::Line;
 use crate::reader::Reader;
@@ -22,8 +22,7 @@ fn split_line(script: &[u8]) -> (&[u8], &[u8])
 impl<'a> Reader<'a> {
     // A reader at the script's start.
     pub fn new(script: &'a [u8]) -> Reader<'a>
-        ensures left { left result ≡ lines_of script.now }
-        ensures lines { result.lines ≡ 0 }
+        ensures { result ≡ record { left = lines_of script.now; lines = 0 } }
     {
         Reader {
             rest: script,
@@ -38,7 +37,7 @@ impl<'a> Iterator for Reader<'a> {
 
     ghost next_gives = { GivesLine };
 
-    ghost remaining = { item_count left };
+    ghost remaining = { item_count (λ r. r.left) };
 
     fn next(&mut self) -> Option<Line<'a>> {
         if self.rest.is_empty() {
