@@ -1,7 +1,7 @@
-use Rattle.std.proofs.Common.{◌≡◌, ◌+◌, vec_items, ap, ◌∙◌}
+use Rattle.std.proofs.Common.{◌+◌, vec_items, ap, ◌∙◌}
 use Rattle.std.proofs.lemmas.List.{take_all}
 use Rattle.onenand_rules.specs.declared.calls.Call.TheVariants.{Read}
-use Rattle.onenand_rules.specs.Steps.{after, replies}
+use Rattle.onenand_rules.specs.Steps.{after}
 use Rattle.onenand_laws.proofs.Whole.{played}
 use Rattle.onenand.specs.Chips.{state_of}
 use Rattle.onenand_play.proofs.Plays.{replies_more, come_more}
@@ -18,19 +18,11 @@ loop-call-preserved g c =
       replies_more start here calls i (Read 0) c.loop-call-test.true came (vec_items c.loop-call.answers) (vec_items c.push.new.self) c.answer.result c.loop-call.invariant.1 c.answer.ensures.reply c.in_ok-push.ensures.items,
     )
 
-pub returns : goal.returns
-returns g c =
+pub returns-clause-promise : goal.returns-clause-promise
+returns-clause-promise g c =
     let start = state_of c.args.chip.now in
-    let here = state_of c.loop-call.chip in
     let calls = c.args.calls.now in
-    let all = take_all c.loop-call.call-index calls c.loop-call-test.false in
-    let end : here ≡ after start calls = c.loop-call.invariant.0 ∙ ap (after start) all in
-    record {
-      replies = c.loop-call.invariant.1 ∙ ap (replies start) all;
-      state = end;
-      stopped = (c.loop-call.call-index, c.loop-call.invariant.0);
-      promise = played start calls here end;
-    }
+    played start calls (state_of c.loop-call.chip) (c.loop-call.invariant.0 ∙ ap (after start) (take_all c.loop-call.call-index calls c.loop-call-test.false))
 
 pub returns-in_err-push-clause-stopped : goal.returns-in_err-push-clause-stopped
 returns-in_err-push-clause-stopped g c =

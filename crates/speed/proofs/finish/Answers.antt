@@ -7,9 +7,6 @@ use Rattle.speed.specs.Ending.{answered, ended}
 use Rattle.speed.proofs.Ending.{none_answered, none_put, answered_on, ended_on, answered_up, ended_up}
 use Rattle.speed.proofs.finish.Goals as goal
 
-pub loop-k-init : goal.loop-k-init
-loop-k-init g c = (omega arith, refl)
-
 pub loop-k-preserved : goal.loop-k-preserved
 loop-k-preserved g c =
     let k = c.loop-k.k in
