@@ -116,7 +116,7 @@ begun (Copies from to) k = cond_both (ltb k (words from)) _ _ (λ (r : Row). Led
     (λ e. loads from to k (ltb-true k (words from) e)) (λ e. programs from to k (ltb-false k (words from) e))
 begun (Erases b) k = no_row_led (Erases b)
 begun (Verifies b) k = no_row_led (Verifies b)
-begun (Protects l a z) k = no_row_led (Protects l a z)
+begun (Protects p) k = no_row_led (Protects p)
 begun (Resets r) k = no_row_led (Resets r)
 
 pub leads : (r : Row) (p : Plan) (k : ℕ) → Suits r (Runs p k) → is_along r k ≡ true → Leads r p k (k - r.from)
@@ -136,5 +136,5 @@ next_suits (Runs (Programs t) k) = refl
 next_suits (Runs (Copies from to) k) = ap (λ j. row_of (Runs (Copies from to) j)) (cond_both (ltb k (words from)) (row_at Load from k k) (row_at Program to (k - words from) k) (λ (r : Row). k ≡ r.from) (λ e. refl) (λ e. refl))
 next_suits (Runs (Erases b) k) = refl
 next_suits (Runs (Verifies b) k) = refl
-next_suits (Runs (Protects l a z) k) = refl
+next_suits (Runs (Protects p) k) = refl
 next_suits (Runs (Resets r) k) = refl

@@ -53,7 +53,7 @@ row_of (Runs (Programs t) k) = row_at Program t k k
 row_of (Runs (Copies from to) k) = cond (nat_lt k (words from)) (row_at Load from k k) (row_at Program to (k - words from) k)
 row_of (Runs (Erases b) k) = no_row
 row_of (Runs (Verifies b) k) = no_row
-row_of (Runs (Protects l a z) k) = no_row
+row_of (Runs (Protects p) k) = no_row
 row_of (Runs (Resets r) k) = no_row
 
 -- tick k moves a word of the row
