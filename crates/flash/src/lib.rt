@@ -1,7 +1,7 @@
 // What a flash array is: the trait that every array implements, the sizes of its parts, and what arrays share.
 #![tactic(auto)]
 
-ghost use Rattle.std.specs.Prelude.{◌≡◌, ℕ, ◌+◌, ◌*◌, ◌^◌, ◌<◌, ◌≤◌};
+ghost use Rattle.std.specs.Prelude.{◌≡◌, ℕ, ◌+◌, ◌*◌, ◌^◌, ◌<◌, ◌≤◌, length, replicate};
 ghost use Rattle.flash.specs.Geometry.{max_blocks, page_words, sector_word, main_word, spare_word};
 ghost use Rattle.flash.specs.Meaning.{Meaning, word_at, outcome_of, programmable, after_program, erasable, after_erase};
 ghost use Rattle.flash.specs.Runs.{filled};
@@ -98,14 +98,23 @@ pub fn spare_word(sector: usize, i: usize) -> Option<usize>
     sector_word::<512, 8>(sector, i)
 }
 
+// Makes every item equal to `item`.
+#[tactic(auto, using(crate::proofs::Runs::run_start, crate::proofs::Runs::run_next, crate::proofs::Runs::run_all))]
+fn set_all<T: Copy>(items: &mut [T], item: T)
+    ensures { items.new ≡ replicate (length items.old) item }
+{
+    // Stays: the library's `fill` asks for a `clone` that cannot fail, which `T: Copy` does not say.
+    for x in items {
+        *x = item;
+    }
+}
+
 // Makes n items from `start` on equal to `item`, as far as there are any.
+#[tactic(auto, using(crate::proofs::Runs::parts_filled))]
 pub fn fill<T: Copy>(items: &mut [T], start: usize, n: usize, item: T)
     ensures { items.new ≡ filled item start n items.old }
 {
     let (_, rest) = items.split_at_mut(start.min(items.len()));
     let n = n.min(rest.len());
-    // Stays: the library's `fill` asks for a `clone` that cannot fail, which `T: Copy` does not say.
-    for x in &mut rest[..n] {
-        *x = item;
-    }
+    set_all(&mut rest[..n], item);
 }
