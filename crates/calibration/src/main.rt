@@ -2,19 +2,21 @@
 // erases other blocks, tries the protected one, and the mains fail inside a program. Is the calibration as it was?
 #![tactic(auto)]
 
-ghost use Rattle.std.specs.Prelude.{◌≡◌, ◌&&◌, ◌++◌, length, replicate, IfOk, OnOk, ◌==◌};
-ghost use Rattle.onenand_rules.specs.declared.calls.Call.TheVariants.{Tick as tick_call};
-ghost use Rattle.onenand_rules.specs.State.{state_for};
+ghost use Rattle.std.specs.Prelude.{◌≡◌, ◌&&◌, ◌++◌, length, Some, IfOk, OnOk, ◌==◌};
 ghost use Rattle.onenand_rules.specs.Steps.{after};
+ghost use Rattle.onenand.specs.Chips.{state_of};
 ghost use Rattle.calibration.specs.Words.{is_same, same_words};
 ghost use Rattle.calibration.specs.Orders.{order};
+ghost use Rattle.calibration.specs.Texts.{text};
 
 use flash::{Array, BLANK, BLOCK_WORDS};
 use image::Image;
 use onenand::Chip;
 use onenand_play::play;
-use onenand_rules::calls::{Answer, Call, Progress};
+use onenand_rules::calls::{Answer, Call, Progress, Refusal};
 use std::alloc::{AllocError, Global};
+use std::fmt;
+use std::iter::repeat_n;
 
 // January's coefficients, and March's, go into the buffer sector D0_0, which F200h chooses.
 const JANUARY: [Call; 9] = [
@@ -138,63 +140,56 @@ const CUT: [Order; 1] = [Order {
     ticks: 3,
 }];
 
-// Adds n ticks to a list of calls.
-fn add_ticks(calls: &mut Vec<Call>, n: usize) -> Result<(), AllocError>
-    ensures { OnOk result (calls.new.items ≡ calls.old.items ++ replicate n tick_call) }
-{
-    for _i in 0..n {
-        calls.push(Call::Tick)?;
-    }
-    Ok(())
-}
+// What came of a call.
+type Answered = Result<Answer, Refusal>;
 
 // Some first calls, and then a command with its ticks.
 fn command(heap: Global, first: &[Call], code: u16, ticks: usize) -> Result<Vec<Call>, AllocError>
     ensures { IfOk result (λ v. v.items ≡ first.now ++ order code ticks) }
 {
-    let mut calls = Vec::from_slice(heap, first)?;
-    calls.push(Call::Write(0xF241, 0x0000))?;
-    calls.push(Call::Write(0xF220, code))?;
-    add_ticks(&mut calls, ticks)?;
-    calls.push(Call::Read(0xF240))?;
-    Ok(calls)
+    let begin = [Call::Write(0xF241, 0x0000), Call::Write(0xF220, code)];
+    first
+        .iter()
+        .copied()
+        .chain(begin)
+        .chain(repeat_n(Call::Tick, ticks))
+        .chain([Call::Read(0xF240)])
+        .collect(heap)
 }
 
-// Whether two answers are the same word.
-fn is_same(a: Answer, b: Answer) -> bool
+// Whether two calls answered the same word.
+fn is_same(a: Answered, b: Answered) -> bool
     ensures { result ≡ is_same a b }
 {
-    match (a, b) {
-        (Answer::Word(v), Answer::Word(w)) => v == w,
-        _ => false,
-    }
+    matches!((a, b), (Ok(Answer::Word(v)), Ok(Answer::Word(w))) if v == w)
 }
 
-// Whether two lists of answers are the same words.
-fn are_same(a: &[Answer], b: &[Answer]) -> bool
+// Whether two lists of calls answered the same words.
+fn are_same(a: &[Answered], b: &[Answered]) -> bool
     ensures { result ≡ (length a.now == length b.now && same_words a.now b.now (length b.now)) }
 {
-    if a.len() != b.len() {
-        return false;
-    }
-    for k in 0..b.len() {
-        if !is_same(a[k], b[k]) {
-            return false;
-        }
-    }
-    true
+    a.len() == b.len() && a.iter().zip(b).all(|(x, y)| is_same(*x, *y))
 }
 
-// Prints one answer.
-fn print_answer(rt: &HostRuntime, answer: Answer) -> anyhow::Result<()> {
-    match answer {
-        Answer::Word(w) => print!(rt; " {w:04X}")?,
-        Answer::Done => print!(rt; " done")?,
-        Answer::Ticked(Progress::Running) => print!(rt; " 1")?,
-        Answer::Ticked(Progress::Ended) => print!(rt; " 0")?,
-        Answer::Refused(refusal) => print!(rt; " refused with {}", refusal.number())?,
+// What came of a call, as it is printed.
+#[derive(Clone, Copy)]
+struct Told(Answered);
+
+impl fmt::Display for Told {
+    ghost output = { λ told. Some (text told.0) };
+
+    fn fmt<W: fmt::Write>(&self, f: &mut fmt::Formatter<W>) -> fmt::Result {
+        match self.0 {
+            Ok(Answer::Word(word)) => write!(f, "{word:04X}"),
+            Ok(Answer::Done) => write!(f, "done"),
+            Ok(Answer::Ticked(Progress::Running)) => write!(f, "1"),
+            Ok(Answer::Ticked(Progress::Ended)) => write!(f, "0"),
+            Err(refusal) => {
+                let number = refusal.number();
+                write!(f, "refused with {number}")
+            }
+        }
     }
-    Ok(())
 }
 
 // Puts calls to the chip, and prints what the last of them answered.
@@ -204,19 +199,23 @@ fn stage<D: Array>(
     what: &str,
     calls: &[Call],
 ) -> anyhow::Result<()>
-    ensures { OnOk result (state_for chip.new.core (D.meaning chip.new.array) ≡ after (state_for chip.old.core (D.meaning chip.old.array)) calls.now) }
+    ensures { OnOk result (state_of chip.new ≡ after (state_of chip.old) calls.now) }
 {
     let answers = play(chip, rt.alloc(), calls)?;
     print!(rt; "  {what}:")?;
     if let Some(answer) = answers.as_slice().last() {
-        print_answer(rt, *answer)?;
+        print!(rt; " {}", Told(*answer))?;
     }
     println!(rt; "")?;
     Ok(())
 }
 
 // Loads the first sector of page 0 of a block, and prints and gives back its first words.
-fn look<D: Array>(rt: &HostRuntime, chip: &mut Chip<D>, block: u16) -> anyhow::Result<Vec<Answer>> {
+fn look<D: Array>(
+    rt: &HostRuntime,
+    chip: &mut Chip<D>,
+    block: u16,
+) -> anyhow::Result<Vec<Answered>> {
     let heap = rt.alloc();
     let first = [Call::Write(0xF100, block), Call::Write(0xF200, 0x0801)];
     let load = command(heap, &first, 0x0000, 264)?;
@@ -224,7 +223,7 @@ fn look<D: Array>(rt: &HostRuntime, chip: &mut Chip<D>, block: u16) -> anyhow::R
     let answers = play(chip, heap, &TABLE)?;
     print!(rt; "  block {block} reads:")?;
     for answer in answers.as_slice() {
-        print_answer(rt, *answer)?;
+        print!(rt; " {}", Told(*answer))?;
     }
     println!(rt; "")?;
     Ok(answers)

@@ -2,7 +2,7 @@
 mod reads;
 mod writes;
 
-ghost use Rattle.std.specs.Prelude.{◌≡◌, List, if◌then◌else◌};
+ghost use Rattle.std.specs.Prelude.{◌≡◌, List, MatchOption};
 ghost use Rattle.onenand_laws.specs.Promise.{Promise};
 ghost use Rattle.onenand_rules.specs.declared.calls.Call.{Call};
 ghost use Rattle.onenand_rules.specs.declared.calls.Call.TheVariants.{Tick as tick_call, Warm as warm_call, Cold as cold_call};
@@ -35,23 +35,22 @@ pub struct Chip<D: Array> {
     ghost suits: { Suits row core.running },
 }
 
-// Power comes on over an array: what the chip holds then.
+// Power comes on over an array: what the chip holds then. The array stays as it is.
 fn power_on<D: Array>(array: &mut D, device: u16, version: u16) -> Core
-    ensures core { result ≡ (powered_up device version (D.meaning array.old)).core }
-    ensures same { D.meaning array.new ≡ D.meaning array.old }
+    ensures state { state_for result (D.meaning array.new) ≡ powered_up device version (D.meaning array.old) }
     ensures promise { (calls : List Call) → Promise device version (D.meaning array.old) calls }
 {
     core_over(array, device, version)
 }
 
 impl<D: Array> Chip<D> {
+    ghost use Rattle.onenand.specs.Chips.{state_of};
+
     // A chip over an array, as its power comes on. Whatever list of calls is then put to it, the promise holds of it.
-    pub fn power_up(array: D, device: u16, version: u16) -> Chip<D>
-        ensures core { result.core ≡ (powered_up device version (D.meaning array)).core }
-        ensures flash { D.meaning result.array ≡ D.meaning array }
+    pub fn power_up(mut array: D, device: u16, version: u16) -> Chip<D>
+        ensures state { state_of result ≡ powered_up device version (D.meaning array) }
         ensures promise { (calls : List Call) → Promise device version (D.meaning array) calls }
     {
-        let mut array = array;
         let core = power_on(&mut array, device, version);
         let row = Row::of(core.running);
         Chip { array, core, row }
@@ -61,19 +60,14 @@ impl<D: Array> Chip<D> {
     pub fn into_array(self) -> D
         ensures { D.meaning result ≡ D.meaning self.array }
     {
-        let Chip {
-            array,
-            core: _,
-            row: _,
-        } = self;
+        let Chip { array, .. } = self;
         array
     }
 
     // Tick number k of a running plan.
     fn run_on(&mut self, plan: Plan, k: u16) -> Progress
-        ensures answer { tick_of (tick_number result) ≡ (ticked (state_for self.old.core (D.meaning self.old.array)) (runs_on plan k)).1 }
-        ensures core { self.new.core ≡ (ticked (state_for self.old.core (D.meaning self.old.array)) (runs_on plan k)).0.core }
-        ensures flash { D.meaning self.new.array ≡ (ticked (state_for self.old.core (D.meaning self.old.array)) (runs_on plan k)).0.array }
+        ensures answer { tick_of (tick_number result) ≡ (ticked (state_of self.old) (runs_on plan k)).1 }
+        ensures state { state_of self.new ≡ (ticked (state_of self.old) (runs_on plan k)).0 }
     {
         let progress = if !act(&mut self.array, &mut self.core, plan.action(k)) {
             fail(&mut self.core.registers, plan);
@@ -91,38 +85,36 @@ impl<D: Array> Chip<D> {
         progress
     }
 
-    // A tick along the row. True: it is done, and the command runs on. False: nothing has changed, and it is still to be done.
-    fn go_along(&mut self) -> bool
-        ensures answer { (if result then (step (state_for self.old.core (D.meaning self.old.array)) tick_call).1 else tick_of 1) ≡ tick_of 1 }
-        ensures core { self.new.core ≡ (if result then (step (state_for self.old.core (D.meaning self.old.array)) tick_call).0.core else self.old.core) }
-        ensures flash { D.meaning self.new.array ≡ (if result then (step (state_for self.old.core (D.meaning self.old.array)) tick_call).0.array else D.meaning self.old.array) }
+    // A tick along the row, after which the command runs on. Where there is none, nothing has changed, and the tick is
+    // still to be done.
+    fn go_along(&mut self) -> Option<Progress>
+        ensures { MatchOption result
+            (state_of self.new ≡ state_of self.old)
+            (λ p. (tick_of (tick_number p) ≡ (step (state_of self.old) tick_call).1)
+            × (state_of self.new ≡ (step (state_of self.old) tick_call).0)) }
     {
-        let Running::Runs(_, k) = &mut self.core.running else {
-            return false;
-        };
-        if !self.row.is_along(*k) {
-            return false;
+        if let Running::Runs(_, k) = &mut self.core.running
+            && self.row.is_along(*k)
+            && move_word(
+                &mut self.array,
+                &mut self.core.dataram,
+                self.row,
+                *k - self.row.from,
+            )
+        {
+            *k += 1;
+            return Some(Progress::Running);
         }
-        if !move_word(
-            &mut self.array,
-            &mut self.core.dataram,
-            self.row,
-            *k - self.row.from,
-        ) {
-            return false;
-        }
-        *k += 1;
-        true
+        None
     }
 
     // One tick of the running command.
     pub fn tick(&mut self) -> Result<Progress, Refusal>
-        ensures answer { tick_reply result ≡ (step (state_for self.old.core (D.meaning self.old.array)) tick_call).1 }
-        ensures core { self.new.core ≡ (step (state_for self.old.core (D.meaning self.old.array)) tick_call).0.core }
-        ensures flash { D.meaning self.new.array ≡ (step (state_for self.old.core (D.meaning self.old.array)) tick_call).0.array }
+        ensures answer { tick_reply result ≡ (step (state_of self.old) tick_call).1 }
+        ensures state { state_of self.new ≡ (step (state_of self.old) tick_call).0 }
     {
-        if self.go_along() {
-            return Ok(Progress::Running);
+        if let Some(progress) = self.go_along() {
+            return Ok(progress);
         }
         match self.core.running {
             Running::Idle => Err(Refusal::NoCommand),
@@ -132,8 +124,7 @@ impl<D: Array> Chip<D> {
 
     // A warm reset.
     pub fn warm(&mut self)
-        ensures core { self.new.core ≡ (step (state_for self.old.core (D.meaning self.old.array)) warm_call).0.core }
-        ensures flash { D.meaning self.new.array ≡ (step (state_for self.old.core (D.meaning self.old.array)) warm_call).0.array }
+        ensures state { state_of self.new ≡ (step (state_of self.old) warm_call).0 }
     {
         self.core.registers.reset(Lock::Locked.protection_word());
         self.core.locks = [Lock::Locked; MAX_BLOCKS];
@@ -143,8 +134,7 @@ impl<D: Array> Chip<D> {
 
     // A cold reset.
     pub fn cold(&mut self)
-        ensures core { self.new.core ≡ (step (state_for self.old.core (D.meaning self.old.array)) cold_call).0.core }
-        ensures flash { D.meaning self.new.array ≡ (step (state_for self.old.core (D.meaning self.old.array)) cold_call).0.array }
+        ensures state { state_of self.new ≡ (step (state_of self.old) cold_call).0 }
     {
         self.core = power_on(&mut self.array, self.core.device, self.core.version);
         self.row = Row::of(self.core.running);

@@ -5,7 +5,7 @@ use Rattle.onenand_rules.specs.declared.calls.Refusal.TheVariants.{Unassigned, T
 use Rattle.onenand_rules.specs.declared.calls.Progress.{Progress}
 use Rattle.onenand_rules.specs.declared.calls.Progress.TheVariants.{Running, Ended}
 use Rattle.onenand_rules.specs.declared.calls.Answer.{Answer}
-use Rattle.onenand_rules.specs.declared.calls.Answer.TheVariants.{Word, Done, Ticked, Refused}
+use Rattle.onenand_rules.specs.declared.calls.Answer.TheVariants.{Word, Done, Ticked}
 
 -- a reply of the chip: a read's word, nothing, a tick's 1 or 0, or the number of a refusal
 pub data Reply : Type 0 where
@@ -28,21 +28,26 @@ abbrev pub tick_number : Progress → ℕ
 tick_number Running = 1
 tick_number Ended = 0
 
--- what the code's answers to a read, a write and a tick, and to any call, say
+-- what a call of the code says, by what it answers where it is not refused
+abbrev pub reply_by : {A : Type 0} → (A → Reply) → Result A Refusal → Reply
+reply_by answer (Ok a) = answer a
+reply_by answer (Err e) = refused (number_of e)
+
+-- so a read, a write and a tick
 abbrev pub read_reply : Result ℕ Refusal → Reply
-read_reply (Ok w) = word w
-read_reply (Err e) = refused (number_of e)
+read_reply r = reply_by word r
 
 abbrev pub write_reply : Result (Unit {0}) Refusal → Reply
-write_reply (Ok u) = done
-write_reply (Err e) = refused (number_of e)
+write_reply r = reply_by (λ u. done) r
 
 abbrev pub tick_reply : Result Progress Refusal → Reply
-tick_reply (Ok p) = tick (tick_number p)
-tick_reply (Err e) = refused (number_of e)
+tick_reply r = reply_by (λ p. tick (tick_number p)) r
 
-abbrev pub reply_of : Answer → Reply
-reply_of (Word w) = word w
-reply_of Done = done
-reply_of (Ticked p) = tick (tick_number p)
-reply_of (Refused e) = refused (number_of e)
+-- and any call
+abbrev pub answer_reply : Answer → Reply
+answer_reply (Word w) = word w
+answer_reply Done = done
+answer_reply (Ticked p) = tick (tick_number p)
+
+abbrev pub reply_of : Result Answer Refusal → Reply
+reply_of r = reply_by answer_reply r

@@ -3,7 +3,7 @@ ghost use Rattle.std.specs.Prelude.{◌≡◌};
 ghost use Rattle.onenand_rules.specs.Calls.{number_of};
 
 // What a host does to the chip.
-#[derive(Clone, Copy)]
+#[derive(Clone, Copy, PartialEq, Eq, Debug)]
 pub enum Call {
     // A read of an address.
     Read(u16),
@@ -16,53 +16,45 @@ pub enum Call {
     Cold,
 }
 
-// Why a call is refused. A refused call changes nothing.
-#[derive(Clone, Copy)]
+// Why a call is refused, with the number that the rules give to it. A refused call changes nothing.
+#[derive(Clone, Copy, PartialEq, Eq, Debug)]
 pub enum Refusal {
     // The address leads nowhere.
-    Unassigned,
+    Unassigned = 6,
     // The word lies in a sector that a running transfer uses.
-    Taken,
+    Taken = 7,
     // The place cannot be written.
-    ReadOnly,
+    ReadOnly = 8,
     // A command runs.
-    Busy,
+    Busy = 9,
     // INT is 1.
-    Pending,
+    Pending = 10,
     // No command runs.
-    NoCommand,
+    NoCommand = 11,
 }
 
 impl Refusal {
-    // The number that the rules give to the refusal.
+    // Its number.
     pub fn number(self) -> u8
         ensures { result ≡ number_of self }
     {
-        match self {
-            Refusal::Unassigned => 6,
-            Refusal::Taken => 7,
-            Refusal::ReadOnly => 8,
-            Refusal::Busy => 9,
-            Refusal::Pending => 10,
-            Refusal::NoCommand => 11,
-        }
+        self as u8
     }
 }
 
 // What a tick made of the command.
-#[derive(Clone, Copy)]
+#[derive(Clone, Copy, PartialEq, Eq, Debug)]
 pub enum Progress {
     Running,
     Ended,
 }
 
-// What a call answers.
-#[derive(Clone, Copy)]
+// What a call answers that is not refused.
+#[derive(Clone, Copy, PartialEq, Eq, Debug)]
 pub enum Answer {
     // A read's word.
     Word(u16),
     // A write, a warm or a cold reset.
     Done,
     Ticked(Progress),
-    Refused(Refusal),
 }

@@ -1,10 +1,8 @@
 -- One line more of a script: what is printed, and which calls are put.
 use Rattle.std.proofs.Common.{◌≡◌, ℕ, ◌+◌, List, [], ◌∷◌, ◌++◌, length, take, sym, refl, ap, ◌∙◌, append_assoc, arith}
 use Rattle.std.proofs.lemmas.List.{append-nil, take-append-le, take_all}
-use Rattle.flash.specs.Meaning.{Meaning}
 use Rattle.onenand_rules.specs.declared.calls.Call.{Call}
-use Rattle.onenand_rules.specs.declared.state.Core.{Core}
-use Rattle.onenand_rules.specs.State.{State, state_for}
+use Rattle.onenand_rules.specs.State.{State}
 use Rattle.onenand_rules.specs.Steps.{step, after}
 use Rattle.onenand_laws.specs.Promise.{Stopped}
 use Rattle.script_forms.specs.Grammar.{form_of}
@@ -53,6 +51,3 @@ way_stopped start s left all (put, came, whole) =
 pub way_ended : (start s : State) (left : List (List ℕ)) (all : List Call) → left ≡ [] → Way start left s all → s ≡ after start all
 way_ended start s left all none (put, came, whole) =
     came ∙ ap (after start) (sym (append-nil put) ∙ sym (ap (λ ls. put ++ calls_of_lines ls s) none) ∙ whole)
-
-pub same_state : (c c' : Core) (m m' : Meaning) → c ≡ c' → m ≡ m' → state_for c m ≡ state_for c' m'
-same_state c c' m m' p q = λ i. state_for (p i) (q i)

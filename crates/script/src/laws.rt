@@ -2,8 +2,6 @@
 ghost use Rattle.script.specs.Laws.{LinesGoOn};
 
 // Stands for the theorem that a fault ends its line and not the script, of every script and chip.
-pub fn lines_go_on() -> bool
+pub fn lines_go_on()
     ensures { LinesGoOn }
-{
-    true
-}
+{}

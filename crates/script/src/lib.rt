@@ -3,15 +3,14 @@
 
 mod laws;
 
-ghost use Rattle.std.specs.Prelude.{◌≡◌, not, ◌++◌, IfOk, string_bytes, OnOk};
-ghost use Rattle.onenand_rules.specs.State.{state_for};
-ghost use Rattle.onenand_rules.specs.declared.calls.Call.TheVariants.{Tick as tick_call};
-ghost use Rattle.onenand_rules.specs.Steps.{step, after as state_after};
+ghost use Rattle.std.specs.Prelude.{◌≡◌, ◌++◌, IfOk, string_bytes, OnOk};
+ghost use Rattle.onenand_rules.specs.Steps.{after as state_after};
 ghost use Rattle.onenand_laws.specs.Promise.{Stopped, Played};
+ghost use Rattle.onenand.specs.Chips.{state_of};
 ghost use Rattle.script_forms.specs.Lines.{lines_of};
 ghost use Rattle.script_forms.specs.Grammar.{form_of};
 ghost use Rattle.script_forms.specs.Parts.{asked};
-ghost use Rattle.script.specs.Puts.{is_refused, ran, ticks_put, calls_for, calls_of_line, calls_of_lines, is_too_long, calls_of};
+ghost use Rattle.script.specs.Puts.{ran, ticks_put, calls_for, calls_of_line, calls_of_lines, is_too_long, calls_of};
 ghost use Rattle.script.specs.Transcript.{coded, performed, entry_for, told, too_long, transcript};
 
 use flash::Array;
@@ -24,33 +23,23 @@ use std::alloc::{AllocError, Global};
 // The most bytes that a script may have.
 pub const MAX_BYTES: usize = 16_384;
 
-// Puts a tick, and says whether it ran.
-fn tick_runs<D: Array>(chip: &mut Chip<D>) -> bool
-    ensures ran { result ≡ not (is_refused (step (state_for chip.old.core (D.meaning chip.old.array)) tick_call).1) }
-    ensures state { state_for chip.new.core (D.meaning chip.new.array) ≡ (step (state_for chip.old.core (D.meaning chip.old.array)) tick_call).0 }
-{
-    match chip.tick() {
-        Ok(_) => true,
-        Err(_) => false,
-    }
-}
-
 // Puts so many ticks, up to the first that is refused, and says how many ran.
 fn run_ticks<D: Array>(chip: &mut Chip<D>, count: u16) -> u16
-    ensures ran { result ≡ ran count (state_for chip.old.core (D.meaning chip.old.array)) }
-    ensures state { state_for chip.new.core (D.meaning chip.new.array) ≡ state_after (state_for chip.old.core (D.meaning chip.old.array)) (ticks_put count (state_for chip.old.core (D.meaning chip.old.array))) }
+    ensures ran { result ≡ ran count (state_of chip.old) }
+    ensures state { state_of chip.new ≡ state_after (state_of chip.old) (ticks_put count (state_of chip.old)) }
 {
-    let mut done = 0;
-    while done < count && tick_runs(chip) {
-        done += 1;
+    for done in 0..count {
+        if chip.tick().is_err() {
+            return done;
+        }
     }
-    done
+    count
 }
 
 // Does what a form asks.
 fn perform<D: Array>(chip: &mut Chip<D>, kind: Kind<'_>) -> Result<Entry, Fault>
-    ensures entry { coded result ≡ performed (state_for chip.old.core (D.meaning chip.old.array)) (asked kind.entry) }
-    ensures state { state_for chip.new.core (D.meaning chip.new.array) ≡ state_after (state_for chip.old.core (D.meaning chip.old.array)) (calls_for (state_for chip.old.core (D.meaning chip.old.array)) (asked kind.entry)) }
+    ensures entry { coded result ≡ performed (state_of chip.old) (asked kind.entry) }
+    ensures state { state_of chip.new ≡ state_after (state_of chip.old) (calls_for (state_of chip.old) (asked kind.entry)) }
 {
     match kind {
         Kind::Read(address) => {
@@ -82,8 +71,8 @@ fn perform<D: Array>(chip: &mut Chip<D>, kind: Kind<'_>) -> Result<Entry, Fault>
 
 // Plays a line. A refusal of the chip stands where its form begins.
 fn play_line<D: Array>(chip: &mut Chip<D>, line: Line<'_>) -> Entry
-    ensures entry { result ≡ entry_for line.entry.number (state_for chip.old.core (D.meaning chip.old.array)) (form_of line.entry.bytes.now) }
-    ensures state { state_for chip.new.core (D.meaning chip.new.array) ≡ state_after (state_for chip.old.core (D.meaning chip.old.array)) (calls_of_line (state_for chip.old.core (D.meaning chip.old.array)) (form_of line.entry.bytes.now)) }
+    ensures entry { result ≡ entry_for line.entry.number (state_of chip.old) (form_of line.entry.bytes.now) }
+    ensures state { state_of chip.new ≡ state_after (state_of chip.old) (calls_of_line (state_of chip.old) (form_of line.entry.bytes.now)) }
 {
     match line.form() {
         Ok(form) => match perform(chip, form.kind) {
@@ -100,12 +89,11 @@ fn play_lines<D: Array>(
     script: &[u8],
     out: &mut String,
 ) -> Result<(), AllocError>
-    ensures text { OnOk result (string_bytes out.new ≡ string_bytes out.old ++ told 1 (lines_of script.now) (state_for chip.old.core (D.meaning chip.old.array))) }
-    ensures state { OnOk result (state_for chip.new.core (D.meaning chip.new.array) ≡ state_after (state_for chip.old.core (D.meaning chip.old.array)) (calls_of_lines (lines_of script.now) (state_for chip.old.core (D.meaning chip.old.array)))) }
-    ensures stopped { Stopped (state_for chip.old.core (D.meaning chip.old.array)) (calls_of_lines (lines_of script.now) (state_for chip.old.core (D.meaning chip.old.array))) (state_for chip.new.core (D.meaning chip.new.array)) }
+    ensures text { OnOk result (string_bytes out.new ≡ string_bytes out.old ++ told 1 (lines_of script.now) (state_of chip.old)) }
+    ensures state { OnOk result (state_of chip.new ≡ state_after (state_of chip.old) (calls_of_lines (lines_of script.now) (state_of chip.old))) }
+    ensures stopped { Stopped (state_of chip.old) (calls_of_lines (lines_of script.now) (state_of chip.old)) (state_of chip.new) }
 {
-    let mut reader = Reader::new(script);
-    while let Some(line) = reader.next_line() {
+    for line in Reader::new(script) {
         let entry = play_line(chip, line);
         add_entry(out, entry)?;
     }
@@ -132,10 +120,10 @@ pub fn play_script<D: Array>(
     heap: Global,
     script: &[u8],
 ) -> Result<String, AllocError>
-    ensures text { IfOk result (λ out. string_bytes out ≡ transcript script.now (state_for chip.old.core (D.meaning chip.old.array))) }
-    ensures state { OnOk result (state_for chip.new.core (D.meaning chip.new.array) ≡ state_after (state_for chip.old.core (D.meaning chip.old.array)) (calls_of script.now (state_for chip.old.core (D.meaning chip.old.array)))) }
-    ensures stopped { Stopped (state_for chip.old.core (D.meaning chip.old.array)) (calls_of script.now (state_for chip.old.core (D.meaning chip.old.array))) (state_for chip.new.core (D.meaning chip.new.array)) }
-    ensures promise { OnOk result (Played (state_for chip.old.core (D.meaning chip.old.array)) (calls_of script.now (state_for chip.old.core (D.meaning chip.old.array))) (state_for chip.new.core (D.meaning chip.new.array))) }
+    ensures text { IfOk result (λ out. string_bytes out ≡ transcript script.now (state_of chip.old)) }
+    ensures state { OnOk result (state_of chip.new ≡ state_after (state_of chip.old) (calls_of script.now (state_of chip.old))) }
+    ensures stopped { Stopped (state_of chip.old) (calls_of script.now (state_of chip.old)) (state_of chip.new) }
+    ensures promise { OnOk result (Played (state_of chip.old) (calls_of script.now (state_of chip.old)) (state_of chip.new)) }
 {
     let mut out = String::new(heap);
     if is_too_long(script) {

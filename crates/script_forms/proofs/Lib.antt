@@ -1,4 +1,5 @@
-pub mod Walks
+pub mod Agreeing
+pub mod FirstLine
 pub mod Choosing
 pub mod Columns
 pub mod Texts

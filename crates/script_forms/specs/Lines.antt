@@ -1,5 +1,9 @@
 -- A script's lines. A line ends at a line feed or at the script's end, and after a last line feed none begins.
-use Rattle.std.specs.Prelude.{ℕ, suc, cond, List, [], ◌∷◌, ◌==◌}
+use Rattle.std.specs.Prelude.{ℕ, Bool, cond, List, [], ◌∷◌, ◌==◌}
+
+-- a byte is a line feed
+abbrev pub is_feed : ℕ → Bool
+is_feed b = b == 10
 
 -- lines with a byte more in front of the first
 abbrev pub onto : ℕ → List (List ℕ) → List (List ℕ)
@@ -11,7 +15,7 @@ abbrev pub lines_of : List ℕ → List (List ℕ)
 lines_of [] = []
 lines_of (b ∷ bs) = cond (b == 10) ([] ∷ lines_of bs) (onto b (lines_of bs))
 
--- how many bytes stand before the first line feed
-abbrev pub line_length : List ℕ → ℕ
-line_length [] = 0
-line_length (b ∷ bs) = cond (b == 10) 0 (suc (line_length bs))
+-- a script on the way: the lines that are left, and how many have been read
+pub record Reading : Type 0 where
+  pub left : List (List ℕ)
+  pub lines : ℕ

@@ -1,18 +1,19 @@
 -- Lines, forms and numbers as the reader gives them: parts of the script's bytes, with their places.
-use Rattle.std.specs.Prelude.{◌≡◌, ℕ, ◌+◌, List, take, drop, Ok, Err, Result}
-use Rattle.script_forms.specs.declared.reader.Reader.{Reader}
+use Rattle.std.specs.Prelude.{◌≡◌, ℕ, ◌+◌, [], ◌∷◌, take, drop, Ok, Err, Result, Option, MatchOption}
 use Rattle.script_forms.specs.declared.parts.Place.{Place}
 use Rattle.script_forms.specs.declared.parts.Part.{Part}
 use Rattle.script_forms.specs.declared.parts.Line.{Line}
 use Rattle.script_forms.specs.declared.parts.Form.{Form}
 use Rattle.script_forms.specs.declared.parts.Kind.{Kind}
 use Rattle.script_forms.specs.declared.parts.Kind.TheVariants.{Read, Write, Tick, Warm, Cold}
-use Rattle.script_forms.specs.Lines.{lines_of}
+use Rattle.script_forms.specs.Lines.{Reading}
 use Rattle.script_forms.specs.Grammar.{Asked, read, write, tick, warm, cold, worth}
 
--- the lines that a reader has yet to give
-abbrev pub left : Reader → List (List ℕ)
-left r = lines_of (drop r.at r.script.now)
+-- a call of a reader gave the next line with its number, or nothing where none is left, and the reader stays there
+abbrev pub GivesLine : Reading → Option Line → Reading → Type 0
+GivesLine r given s = MatchOption given
+    ((r.left ≡ []) × (s.left ≡ []) × (s.lines ≡ r.lines))
+    (λ l. (r.left ≡ l.bytes.now ∷ s.left) × (l.number ≡ r.lines + 1) × (s.lines ≡ r.lines + 1))
 
 -- what a form of a kind asks, by the worth of its numbers
 abbrev pub asked : Kind → Asked

@@ -1,66 +1,50 @@
 // A script line by line.
-ghost use Rattle.std.specs.Prelude.{◌≡◌, ℕ, ◌+◌, ◌≤◌, min, [], ◌∷◌, length, drop, MatchOption, nat_lt};
-ghost use Rattle.script_forms.specs.Lines.{lines_of, line_length};
-ghost use Rattle.script_forms.specs.Parts.{left};
+ghost use Rattle.std.specs.Prelude.{◌≡◌};
+ghost use Rattle.std.specs.List.{before_first, after_first};
+ghost use Rattle.std.specs.Iterator.{item_count};
+ghost use Rattle.script_forms.specs.Lines.{lines_of, is_feed};
+ghost use Rattle.script_forms.specs.Parts.{GivesLine};
 
 use crate::parts::Line;
 use crate::reader::Reader;
 
-// Whether a line begins at `at`: none does after the last byte.
-fn has_line(script: &[u8], at: usize) -> bool
-    ensures { result ≡ nat_lt at (length script.now) }
+// A script's first line without its line feed, and what comes after that.
+fn split_line(script: &[u8]) -> (&[u8], &[u8])
+    ensures line { result.0.now ≡ before_first is_feed script.now }
+    ensures rest { result.1.now ≡ after_first is_feed script.now }
 {
-    at < script.len()
-}
-
-// Where the line that begins at `at` ends.
-fn line_end(script: &[u8], at: usize) -> usize
-    requires { at ≤ length script.now }
-    ensures value { result ≡ at + line_length (drop at script.now) }
-    ensures bound { result ≤ length script.now }
-{
-    let mut end = at;
-    while end < script.len() && script[end] != b'\n' {
-        end += 1;
+    match script.iter().position(|b| *b == b'\n') {
+        Some(end) => (&script[..end], &script[end + 1..]),
+        None => (script, &[]),
     }
-    end
-}
-
-// Where the line after one that ends at `end` begins.
-fn past_line(script: &[u8], end: usize) -> usize
-    requires { end ≤ length script.now }
-    ensures { result ≡ min (end + 1) (length script.now) }
-{
-    (end + 1).min(script.len())
 }
 
 impl<'a> Reader<'a> {
     // A reader at the script's start.
     pub fn new(script: &'a [u8]) -> Reader<'a>
-        ensures left { left result ≡ lines_of script.now }
-        ensures lines { result.lines ≡ 0 }
+        ensures { result ≡ record { left = lines_of script.now; lines = 0 } }
     {
         Reader {
-            script,
-            at: 0,
+            rest: script,
             lines: 0,
         }
     }
+}
 
-    // The next line with its number; at the end nothing, and the reader stays there.
-    pub fn next_line(&mut self) -> Option<Line<'a>>
-        ensures { MatchOption result
-            ((left self.old ≡ []) × (left self.new ≡ []) × (self.new.lines ≡ self.old.lines))
-            (λ l. (left self.old ≡ l.bytes.now ∷ left self.new)
-            × (l.number ≡ self.old.lines + 1)
-            × (self.new.lines ≡ self.old.lines + 1)) }
-    {
-        if !has_line(self.script, self.at) {
+// The lines with their numbers; at the end nothing, and the reader stays there.
+impl<'a> Iterator for Reader<'a> {
+    type Item = Line<'a>;
+
+    ghost next_gives = { GivesLine };
+
+    ghost remaining = { item_count (λ r. r.left) };
+
+    fn next(&mut self) -> Option<Line<'a>> {
+        if self.rest.is_empty() {
             return None;
         }
-        let end = line_end(self.script, self.at);
-        let bytes = &self.script[self.at..end];
-        self.at = past_line(self.script, end);
+        let (bytes, rest) = split_line(self.rest);
+        self.rest = rest;
         self.lines += 1;
         Some(Line {
             bytes,

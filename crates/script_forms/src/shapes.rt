@@ -34,11 +34,11 @@ fn agreement(shape: &[u8], line: &[u8]) -> usize
     ensures value { result ≡ agreed shape.now line.now }
     ensures bound { result ≤ length line.now }
 {
-    let mut n = 0;
-    while n < shape.len() && n < line.len() && fits(shape[n], line[n]) {
-        n += 1;
-    }
-    n
+    shape
+        .iter()
+        .zip(line)
+        .take_while(|(s, b)| fits(**s, **b))
+        .count()
 }
 
 // Whether a line is of a shape, whole and with nothing after it.

@@ -1,9 +1,9 @@
 // A read.
 ghost use Rattle.std.specs.Prelude.{◌≡◌};
 ghost use Rattle.onenand_rules.specs.declared.calls.Call.TheVariants.{Read as read_call};
-ghost use Rattle.onenand_rules.specs.State.{state_for};
 ghost use Rattle.onenand_rules.specs.Calls.{read_reply};
 ghost use Rattle.onenand_rules.specs.Steps.{step};
+ghost use Rattle.onenand.specs.Chips.{state_of};
 
 use crate::chip::Chip;
 use flash::Array;
@@ -13,7 +13,7 @@ use onenand_steps::reads::show;
 impl<D: Array> Chip<D> {
     // The word at an address.
     pub fn read(&self, addr: u16) -> Result<u16, Refusal>
-        ensures { read_reply result ≡ (step (state_for self.now.core (D.meaning self.now.array)) (read_call addr)).1 }
+        ensures { read_reply result ≡ (step (state_of self.now) (read_call addr)).1 }
     {
         show(&self.core, addr)
     }

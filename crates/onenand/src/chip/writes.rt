@@ -1,10 +1,10 @@
 // A write, and the acceptance of a command.
 ghost use Rattle.std.specs.Prelude.{◌≡◌};
 ghost use Rattle.onenand_rules.specs.declared.calls.Call.TheVariants.{Write as write_call};
-ghost use Rattle.onenand_rules.specs.State.{state_for};
 ghost use Rattle.onenand_rules.specs.Calls.{write_reply};
 ghost use Rattle.onenand_rules.specs.Writes.{pending, accepted, commanded};
 ghost use Rattle.onenand_rules.specs.Steps.{step};
+ghost use Rattle.onenand.specs.Chips.{state_of};
 
 use crate::chip::Chip;
 use flash::Array;
@@ -27,8 +27,7 @@ fn is_pending(core: &Core, command: Command) -> bool
 impl<D: Array> Chip<D> {
     // Starts a command: it takes its operands, and is checked.
     fn start(&mut self, code: u16)
-        ensures core { self.new.core ≡ (accepted (state_for self.old.core (D.meaning self.old.array)) code).core }
-        ensures flash { D.meaning self.new.array ≡ D.meaning self.old.array }
+        ensures { state_of self.new ≡ accepted (state_of self.old) code }
     {
         let n = self.array.count();
         let plan = plan(
@@ -46,9 +45,8 @@ impl<D: Array> Chip<D> {
 
     // A write to F220h.
     fn accept(&mut self, code: u16) -> Result<(), Refusal>
-        ensures answer { write_reply result ≡ (commanded (state_for self.old.core (D.meaning self.old.array)) code).1 }
-        ensures core { self.new.core ≡ (commanded (state_for self.old.core (D.meaning self.old.array)) code).0.core }
-        ensures flash { D.meaning self.new.array ≡ (commanded (state_for self.old.core (D.meaning self.old.array)) code).0.array }
+        ensures answer { write_reply result ≡ (commanded (state_of self.old) code).1 }
+        ensures state { state_of self.new ≡ (commanded (state_of self.old) code).0 }
     {
         let command = Command::decode(code);
         if self.core.running.is_busy(command) {
@@ -63,9 +61,8 @@ impl<D: Array> Chip<D> {
 
     // Writes a word to an address.
     pub fn write(&mut self, addr: u16, word: u16) -> Result<(), Refusal>
-        ensures answer { write_reply result ≡ (step (state_for self.old.core (D.meaning self.old.array)) (write_call addr word)).1 }
-        ensures core { self.new.core ≡ (step (state_for self.old.core (D.meaning self.old.array)) (write_call addr word)).0.core }
-        ensures flash { D.meaning self.new.array ≡ (step (state_for self.old.core (D.meaning self.old.array)) (write_call addr word)).0.array }
+        ensures answer { write_reply result ≡ (step (state_of self.old) (write_call addr word)).1 }
+        ensures state { state_of self.new ≡ (step (state_of self.old) (write_call addr word)).0 }
     {
         match place_of(addr) {
             Place::Data(x) => {

@@ -1,10 +1,9 @@
 use Rattle.std.proofs.Common.{ℕ, List, ◌++◌, sym, refl, ap, ◌∙◌, subst}
-use Rattle.std.proofs.lemmas.Result.{IfOk-from_err}
 use Rattle.onenand_rules.specs.declared.calls.Call.{Call}
-use Rattle.onenand_rules.specs.State.{state_for}
 use Rattle.onenand_rules.specs.Steps.{after}
 use Rattle.onenand_laws.specs.Promise.{Stopped}
 use Rattle.onenand_laws.proofs.Whole.{played}
+use Rattle.onenand.specs.Chips.{state_of}
 use Rattle.script_forms.specs.Lines.{lines_of}
 use Rattle.script_entries.specs.declared.entries.Entry.{Entry}
 use Rattle.script_entries.specs.Texts.{line_of}
@@ -15,7 +14,7 @@ use Rattle.script.proofs.play_script.Goals as goal
 
 pub returns-then-is_too_long : goal.returns-then-is_too_long
 returns-then-is_too_long g c =
-    let s = state_for c.args.chip.now.core (g.D.Array.meaning c.args.chip.now.array) in
+    let s = state_of c.args.chip.now in
     let script = c.args.script.now in
     let long = sym c.is_too_long.ensures ∙ c.if-is_too_long.true in
     let none = ap (after s) (sym (calls_long script s long)) in
@@ -26,25 +25,17 @@ returns-then-is_too_long g c =
       promise = played s (calls_of script s) s none;
     }
 
-pub returns-in_err-play_lines : goal.returns-in_err-play_lines
-returns-in_err-play_lines g c =
-    let m = g.D.Array.meaning in
-    let s = state_for c.args.chip.now.core (m c.args.chip.now.array) in
-    let there = state_for c.play_lines.new.chip.core (m c.play_lines.new.chip.array) in
-    let script = c.args.script.now in
+pub returns-in_err-play_lines-clause-stopped : goal.returns-in_err-play_lines-clause-stopped
+returns-in_err-play_lines-clause-stopped g c =
+    let s = state_of c.args.chip.now in
+    let there = state_of c.play_lines.new.chip in
     let short = sym c.is_too_long.ensures ∙ c.if-is_too_long.false in
-    record {
-      text = IfOk-from_err c.from_residual-in_err-play_lines.result _ c.from_residual-in_err-play_lines.ensures.0;
-      state = IfOk-from_err c.from_residual-in_err-play_lines.result _ c.from_residual-in_err-play_lines.ensures.0;
-      stopped = subst (λ (cs : List Call). Stopped s cs there) (sym (calls_short script s short)) c.play_lines.ensures.stopped;
-      promise = IfOk-from_err c.from_residual-in_err-play_lines.result _ c.from_residual-in_err-play_lines.ensures.0;
-    }
+    subst (λ (cs : List Call). Stopped s cs there) (sym (calls_short c.args.script.now s short)) c.play_lines.ensures.stopped
 
 pub returns : goal.returns
 returns g c =
-    let m = g.D.Array.meaning in
-    let s = state_for c.args.chip.now.core (m c.args.chip.now.array) in
-    let there = state_for c.play_lines.new.chip.core (m c.play_lines.new.chip.array) in
+    let s = state_of c.args.chip.now in
+    let there = state_of c.play_lines.new.chip in
     let script = c.args.script.now in
     let short = sym c.is_too_long.ensures ∙ c.if-is_too_long.false in
     let led = c.in_ok-play_lines.ensures.state ∙ ap (after s) (sym (calls_short script s short)) in

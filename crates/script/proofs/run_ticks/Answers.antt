@@ -1,28 +1,23 @@
 use Rattle.std.proofs.Common.{sym, ◌∙◌, arith}
-use Rattle.onenand_rules.specs.State.{state_for}
-use Rattle.script.proofs.Ticking.{ran_on, state_on, ran_up, state_up, not_true, not_false}
+use Rattle.onenand.specs.Chips.{state_of}
+use Rattle.script.proofs.Ticking.{ran_on, state_on, state_up}
 use Rattle.script.proofs.run_ticks.Goals as goal
 
 pub loop-done-preserved : goal.loop-done-preserved
 loop-done-preserved g c =
-    let m = g.D.Array.meaning in
-    let here = state_for c.loop-done.chip.core (m c.loop-done.chip.array) in
-    let there = state_for c.tick_runs.new.chip.core (m c.tick_runs.new.chip.array) in
-    let led = c.tick_runs.ensures.state in
-    let runs = not_true _ (sym c.if-tick_runs.true ∙ c.tick_runs.ensures.ran) in (
-      omega arith,
-      omega (arith, ran_on c.args.count c.loop-done.done here there c.loop-done-test.true led runs, c.loop-done.invariant.1),
-      sym (state_on c.args.count c.loop-done.done here there c.loop-done-test.true led runs) ∙ c.loop-done.invariant.2,
+    let n = c.args.count in
+    let k = c.loop-done.done in
+    let here = state_of c.loop-done.chip in
+    let there = state_of c.tick.new.self in
+    let told = c.tick.ensures in
+    let runs = c.if-is_err.ensures.value in (
+      omega (arith, ran_on n k here there c.tick.result c.loop-done-test.true told.answer told.state runs, c.loop-done.invariant.0),
+      sym (state_on n k here there c.tick.result c.loop-done-test.true told.answer told.state runs) ∙ c.loop-done.invariant.1,
     )
 
-pub returns-else-tick_runs : goal.returns-else-tick_runs
-returns-else-tick_runs g c =
-    let m = g.D.Array.meaning in
-    let here = state_for c.loop-done.chip.core (m c.loop-done.chip.array) in
-    let there = state_for c.tick_runs.new.chip.core (m c.tick_runs.new.chip.array) in
-    let led = c.tick_runs.ensures.state in
-    let stops = not_false _ (sym c.if-tick_runs.false ∙ c.tick_runs.ensures.ran) in
-    record {
-      ran = omega (arith, ran_up c.args.count c.loop-done.done here there c.loop-done-test.true led stops, c.loop-done.invariant.1);
-      state = sym (state_up c.args.count c.loop-done.done here there c.loop-done-test.true led stops) ∙ c.loop-done.invariant.2;
-    }
+pub returns-then-is_err-clause-state : goal.returns-then-is_err-clause-state
+returns-then-is_err-clause-state g c =
+    let here = state_of c.loop-done.chip in
+    let there = state_of c.tick.new.self in
+    let told = c.tick.ensures in
+    sym (state_up c.args.count c.loop-done.done here there c.tick.result c.loop-done-test.true told.answer told.state c.if-is_err.ensures.value) ∙ c.loop-done.invariant.1
