@@ -61,7 +61,7 @@ module _ (b : ℕ) where
   UnseenBy (Copies f t) = f.block ≡ b → ⊥
   UnseenBy (Erases x) = Unit {0}
   UnseenBy (Verifies x) = x ≡ b → ⊥
-  UnseenBy (Protects l a z) = Unit {0}
+  UnseenBy (Protects p) = Unit {0}
   UnseenBy (Resets r) = Unit {0}
 
   abbrev Unseen : Running → Type 0
@@ -76,7 +76,7 @@ module _ (b : ℕ) where
   Overlooks (ProgramWord t i) = Unit {0}
   Overlooks (EraseBlock x) = Unit {0}
   Overlooks (VerifyPage x p) = x ≡ b → ⊥
-  Overlooks (SetLocks l a z) = Unit {0}
+  Overlooks (SetLocks p) = Unit {0}
 
   overlooks : (p : Plan) (k : ℕ) → UnseenBy p → Overlooks (action_of p k)
   overlooks (Fails f d) k u = tt
@@ -85,7 +85,7 @@ module _ (b : ℕ) where
   overlooks (Copies f t) k u = cond_both (ltb k (words f)) _ _ Overlooks (λ _. u) (λ _. tt)
   overlooks (Erases x) k u = cond_both (ltb k 63) _ _ Overlooks (λ _. tt) (λ _. tt)
   overlooks (Verifies x) k u = u
-  overlooks (Protects l a z) k u = tt
+  overlooks (Protects p) k u = tt
   overlooks (Resets r) k u = tt
 
   unseen_intended : (o : Operands) (q : Cmd) → (is_reading q ≡ true → o.block ≡ b → ⊥) → UnseenBy (intended o q)
@@ -139,7 +139,7 @@ module _ (b : ℕ) where
     succeeds_same (ProgramWord t j) u = λ i. (ltb t.block (e.count i) && (ltb (page_of t.page) block_pages && ltb (page_word t.part t.page j) page_words)) && not (e.dead_page i t.block (page_of t.page))
     succeeds_same (EraseBlock x) u = λ i. ltb x (e.count i) && not (e.dead_block i x)
     succeeds_same (VerifyPage x p) u = blank_same x p page_words u
-    succeeds_same (SetLocks l a z) u = refl
+    succeeds_same (SetLocks p) u = refl
 
     data_same : (a : Action) → Overlooks a → data_after c.dataram m a ≡ data_after c.dataram m' a
     data_same Fail u = refl
@@ -148,7 +148,7 @@ module _ (b : ℕ) where
     data_same (ProgramWord t i) u = refl
     data_same (EraseBlock x) u = refl
     data_same (VerifyPage x p) u = refl
-    data_same (SetLocks l a z) u = refl
+    data_same (SetLocks p) u = refl
 
     apart_after : (a : Action) → Apart b (array_after c.dataram m a) (array_after c.dataram m' a)
     apart_after Fail = e
@@ -162,7 +162,7 @@ module _ (b : ℕ) where
     }
     apart_after (EraseBlock v) = record { count = e.count; dead_page = e.dead_page; dead_block = e.dead_block; word = λ x p w n. ap (λ y. cond (eqb x v) blank_word y) (e.word x p w n) }
     apart_after (VerifyPage x p) = e
-    apart_after (SetLocks l a z) = e
+    apart_after (SetLocks p) = e
 
     acted_alike : (a : Action) (r : ℕ → Registers) (u : Running) (q : Reply) → Overlooks a → Unseen u → Alike (acted here a (r m.count) u, q) (acted there a (r m'.count) u, q)
     acted_alike a r u q v v' = record {

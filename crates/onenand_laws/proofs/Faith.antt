@@ -49,7 +49,7 @@ ticks_few (Programs t) = let h = (size_some t.part t.buffer).1 in omega arith
 ticks_few (Copies f t) = let h = (size_some f.part f.buffer).1 in let k = (size_some t.part t.buffer).1 in omega arith
 ticks_few (Erases b) = omega arith
 ticks_few (Verifies b) = omega arith
-ticks_few (Protects l a z) = omega arith
+ticks_few (Protects p) = omega arith
 ticks_few (Resets r) = omega arith
 
 held : (t : Moment) → Sound t → (from : State) (c k : ℕ) → t.underway ≡ started from c k → Held from c k t.chip

@@ -68,7 +68,7 @@ some_ticks (Programs t) = some_words t.part t.buffer
 some_ticks (Copies from to) = let h = some_words from.part from.buffer in omega arith
 some_ticks (Erases b) = omega arith
 some_ticks (Verifies b) = omega arith
-some_ticks (Protects l a z) = omega arith
+some_ticks (Protects p) = omega arith
 some_ticks (Resets r) = omega arith
 
 commands : (s : State) (w : ℕ) → Written s (commanded s w).0
@@ -114,7 +114,7 @@ sizes_after d m (LoadWord t i) = same_sizes m
 sizes_after d m (ProgramWord t i) = record { count = refl; dead_page = refl; dead_block = refl }
 sizes_after d m (EraseBlock b) = record { count = refl; dead_page = refl; dead_block = refl }
 sizes_after d m (VerifyPage b p) = same_sizes m
-sizes_after d m (SetLocks l a z) = same_sizes m
+sizes_after d m (SetLocks p) = same_sizes m
 
 runs_on : (s : State) (p : Plan) (k : ℕ) → Ticked s (ticked s (Runs p k)).0
 runs_on s p k =

@@ -79,7 +79,7 @@ Progress (Programs t) from k s = ProgramsSoFar from t k s
 Progress (Copies f t) from k s = CopiesSoFar from f t k s
 Progress (Erases b) from k s = (lock_at s.core.locks b ≡ Unlocked) × ((x p w : ℕ) → s.array.word x p w ≡ from.array.word x p w)
 Progress (Verifies b) from k s = Unit {0}
-Progress (Protects l a z) from k s = Unit {0}
+Progress (Protects p) from k s = Unit {0}
 Progress (Resets r) from k s = Unit {0}
 
 -- the command of a code word that was accepted in a state runs, and has had k ticks
@@ -164,7 +164,7 @@ progress_kept (Copies f t) from s k r d e l h = record {
 }
 progress_kept (Erases b) from s k r d e l h = h
 progress_kept (Verifies b) from s k r d e l h = tt
-progress_kept (Protects l a z) from s k r d e l' h = tt
+progress_kept (Protects p) from s k r d e l' h = tt
 progress_kept (Resets x) from s k r d e l h = tt
 
 under_kept : (u : Underway) (s : State) (r : Registers) (d : List ℕ) → ((x : ℕ) → taken s.core.running x ≡ true → get_or d x 0 ≡ get_or s.core.dataram x 0) →
@@ -184,7 +184,7 @@ ticks_some (Programs t) = (size_some t.part t.buffer).0
 ticks_some (Copies f t) = let h = (size_some f.part f.buffer).0 in omega arith
 ticks_some (Erases b) = omega arith
 ticks_some (Verifies b) = omega arith
-ticks_some (Protects l a z) = omega arith
+ticks_some (Protects p) = omega arith
 ticks_some (Resets r) = omega arith
 
 unlocked_is : (l : Lock) → is_unlocked l ≡ true → l ≡ Unlocked
@@ -303,7 +303,7 @@ action_length n (LoadWord t i) d e = e
 action_length n (ProgramWord t i) d e = e
 action_length n (EraseBlock b) d e = e
 action_length n (VerifyPage b p) d e = e
-action_length n (SetLocks l a z) d e = table_length n l a z d e
+action_length n (SetLocks p) d e = table_length n p.lock p.first p.last d e
 
 action_data : (m : Meaning) (a : Action) (d : List ℕ) → length d ≡ 1056 → length (data_after d m a) ≡ 1056
 action_data m Fail d e = e
@@ -312,7 +312,7 @@ action_data m (LoadWord t i) d e = length-set d _ _ ∙ e
 action_data m (ProgramWord t i) d e = e
 action_data m (EraseBlock b) d e = e
 action_data m (VerifyPage b p) d e = e
-action_data m (SetLocks l a z) d e = e
+action_data m (SetLocks p) d e = e
 
 action_count : (m : Meaning) (a : Action) (d : List ℕ) → (array_after d m a).count ≡ m.count
 action_count m Fail d = refl
@@ -321,7 +321,7 @@ action_count m (LoadWord t i) d = refl
 action_count m (ProgramWord t i) d = refl
 action_count m (EraseBlock b) d = refl
 action_count m (VerifyPage b p) d = refl
-action_count m (SetLocks l a z) d = refl
+action_count m (SetLocks p) d = refl
 
 acted_shape : (s : State) (a : Action) (r : Registers) (u : Running) → Shaped s → Shaped (acted s a r u)
 acted_shape s a r u h = record {
@@ -338,7 +338,7 @@ Open t (LoadWord f i) = Unit {0}
 Open t (ProgramWord f i) = t f.block ≡ Unlocked
 Open t (EraseBlock b) = t b ≡ Unlocked
 Open t (VerifyPage b p) = Unit {0}
-Open t (SetLocks l a z) = Unit {0}
+Open t (SetLocks p) = Unit {0}
 
 plan_open : (p : Plan) (from : State) (k : ℕ) (s : State) → Progress p from k s → Open (lock_at s.core.locks) (action_of p k)
 plan_open (Fails f kd) from k s h = tt
@@ -347,7 +347,7 @@ plan_open (Programs t) from k s h = h.unlocked
 plan_open (Copies f t) from k s h = cond_both (ltb k (words f)) _ _ (Open (lock_at s.core.locks)) (λ _. tt) (λ _. h.unlocked)
 plan_open (Erases b) from k s h = cond_both (ltb k 63) _ _ (Open (lock_at s.core.locks)) (λ _. tt) (λ _. h.0)
 plan_open (Verifies b) from k s h = tt
-plan_open (Protects l a z) from k s h = tt
+plan_open (Protects p) from k s h = tt
 plan_open (Resets x) from k s h = tt
 
 open_block : (l : Lock) → l ≡ Unlocked → is_unlocked l ≡ false → ⊥
@@ -365,7 +365,7 @@ action_keeps (EraseBlock v) d m x n o b q w e = cond_both (eqb b v) _ _ (λ y. y
     (λ f. absurd (open_block _ o (ap (λ y. is_unlocked (lock_at d y)) (sym (eqb-true b v f)) ∙ e)))
     (λ _. refl)
 action_keeps (VerifyPage v p) d m x n o b q w e = refl
-action_keeps (SetLocks l a z) d m x n o b q w e = refl
+action_keeps (SetLocks p) d m x n o b q w e = refl
 
 -- the block states after an action, by the rules of protection
 abbrev ruled : ℕ → Action → (ℕ → Lock) → ℕ → Lock
@@ -375,7 +375,7 @@ ruled n (LoadWord f i) t = t
 ruled n (ProgramWord f i) t = t
 ruled n (EraseBlock b) t = t
 ruled n (VerifyPage b p) t = t
-ruled n (SetLocks l a z) t = protected n l a z t
+ruled n (SetLocks p) t = protected n p.lock p.first p.last t
 
 action_ruled : (n : ℕ) (a : Action) (d : List Lock) → length d ≡ max_blocks → n ≤ max_blocks → ruled n a (lock_at d) ≡ lock_at (locks_after n a d)
 action_ruled n Fail d e h = refl
@@ -384,7 +384,7 @@ action_ruled n (LoadWord f i) d e h = refl
 action_ruled n (ProgramWord f i) d e h = refl
 action_ruled n (EraseBlock b) d e h = refl
 action_ruled n (VerifyPage b p) d e h = refl
-action_ruled n (SetLocks l a z) d e h = sym (table n l a z d e h)
+action_ruled n (SetLocks p) d e h = sym (table n p.lock p.first p.last d e h)
 
 -- a command's end makes of the block states what its action does
 ended_ruled : (l : ℕ → Lock) (o : Operands) (n n' k : ℕ) (t : ℕ → Lock) (q : Cmd) → locks_ended n q o.first o.last t ≡ ruled n (action_of (planned l o n' q) k) t
@@ -405,7 +405,7 @@ long_ruled n (Programs r) t k h = refl
 long_ruled n (Copies f r) t k h = cond_both (ltb k (words f)) _ _ (λ a. t ≡ ruled n a t) (λ _. refl) (λ _. refl)
 long_ruled n (Erases b) t k h = cond_both (ltb k 63) _ _ (λ a. t ≡ ruled n a t) (λ _. refl) (λ _. refl)
 long_ruled n (Verifies b) t k h = refl
-long_ruled n (Protects l a z) t k h = absurd (omega arith)
+long_ruled n (Protects p) t k h = absurd (omega arith)
 long_ruled n (Resets x) t k h = refl
 
 failed_ruled : (n : ℕ) (a : Action) (m : Meaning) (t : ℕ → Lock) → succeeds m a ≡ false → ruled n a t ≡ t
@@ -415,7 +415,7 @@ failed_ruled n (LoadWord f i) m t h = refl
 failed_ruled n (ProgramWord f i) m t h = refl
 failed_ruled n (EraseBlock b) m t h = refl
 failed_ruled n (VerifyPage b p) m t h = refl
-failed_ruled n (SetLocks l a z) m t h = absurd (true≢false h)
+failed_ruled n (SetLocks p) m t h = absurd (true≢false h)
 
 -- one word more is ANDed in
 eqb_self : (a : ℕ) → eqb a a ≡ true
@@ -515,7 +515,7 @@ Onward (Programs t) k = Unit {0}
 Onward (Copies f t) k = Unit {0}
 Onward (Erases b) k = k + 1 < 64
 Onward (Verifies b) k = Unit {0}
-Onward (Protects l a z) k = Unit {0}
+Onward (Protects p) k = Unit {0}
 Onward (Resets r) k = Unit {0}
 
 onward : (p : Plan) (k : ℕ) → k + 1 < ticks_of p → Onward p k
@@ -525,7 +525,7 @@ onward (Programs t) k h = tt
 onward (Copies f t) k h = tt
 onward (Erases b) k h = h
 onward (Verifies b) k h = tt
-onward (Protects l a z) k h = tt
+onward (Protects p) k h = tt
 onward (Resets x) k h = tt
 
 -- what one tick more has done
@@ -544,7 +544,7 @@ progress_on (Copies f t) from s k r u z i o e h = cond_both (ltb k (words f)) _ 
     (λ q. copy_programs from s f t k r u z h (ltb-false k (words f) q) i)
 progress_on (Erases b) from s k r u z i o e h = cond_both (ltb k 63) _ _ (λ a. Progress (Erases b) from (k + 1) (acted s a r u)) (λ _. h) (λ f. absurd (let g = ltb-false k 63 f in omega arith))
 progress_on (Verifies b) from s k r u z i o e h = tt
-progress_on (Protects l a z) from s k r u y i o e h = tt
+progress_on (Protects p) from s k r u y i o e h = tt
 progress_on (Resets x) from s k r u z i o e h = tt
 
 -- a tick of a command: it goes on, it ends, or it fails
