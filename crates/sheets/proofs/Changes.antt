@@ -2,7 +2,7 @@
 use Rattle.std.proofs.Common.{◌≡◌, ℕ, zero, suc, ◌+◌, ◌*◌, ◌^◌, ◌<◌, ◌≤◌, Bool, true, false, cond, not, ◌&&◌, eqb, ltb, leb, List, [], ◌∷◌, map, ◌++◌, length, get_or, take, drop, set, Some, sym, refl, ap, ◌∙◌, ap₂, ⊎_elim, arith}
 use mathlib.Core.Path.{fun_ext}
 use lib.Bits.{bit_and}
-use Rattle.std.proofs.lemmas.List.{length-set, length-map, get_or-set_same, get_or-set_other, get_or_default, get_or_past}
+use Rattle.std.proofs.lemmas.List.{length-set, length-map, get_or-set_same, get_or-set_other, set-get_or, get_or_default, get_or_past}
 use Rattle.std.proofs.lemmas.List.Edits.{map_over_more}
 use Rattle.std.proofs.lemmas.Bool.{cond_both, cond-true, cond-false, cases_Bool, cases_eq, cases_lt}
 use Rattle.std.proofs.lemmas.Bool.Decides.{nat_tests}
@@ -154,15 +154,23 @@ module _ (n : ℕ) (ss : List Sheet) (ws : List ℕ) (b p w v : ℕ) (small : v 
     dead_block = λ b'. false;
   }
 
-pub programmed_is : (n : ℕ) (ss ss' : List Sheet) (ws ws' : List ℕ) (b p w v k : ℕ) → seat_of n ss ws b p w ≡ Some k → ss' ≡ opened ss k → ws' ≡ word_stored (eqb (mark ss k) 0) ws k w v → v < 2 ^ 16
-    → sheet_meaning n ss' ws' ≡ after_program (sheet_meaning n ss ws) b p w v
-programmed_is n ss ss' ws ws' b p w v k e es ew small =
-    let there : (programmable (sheet_meaning n ss ws) b p w ≡ true) × (first_of b p ss ≡ k) = ⊎_elim
+-- the list after sheet i was opened
+opened_by : (ss : List Sheet) (i : ℕ) (s : Sheet) → s ≡ cond (eqb (mark ss i) 0) (written (get_or ss i no_sheet)) (get_or ss i no_sheet) → set ss i s ≡ opened ss i
+opened_by ss i s e = ap (set ss i) e ∙ ⊎_elim
+    (λ (t : eqb (mark ss i) 0 ≡ true). ap (set ss i) (cond-true _ _ _ t) ∙ sym (cond-true _ _ _ t))
+    (λ (t : eqb (mark ss i) 0 ≡ false). ap (set ss i) (cond-false _ _ _ t) ∙ set-get_or ss i no_sheet ∙ sym (cond-false _ _ _ t))
+    (cases_Bool (eqb (mark ss i) 0))
+
+pub programmed_is : (n : ℕ) (ss : List Sheet) (ws xs : List ℕ) (b p w v i : ℕ) (s : Sheet) → seat_of n ss ws b p w ≡ Some i
+    → s ≡ cond (eqb (mark ss i) 0) (written (get_or ss i no_sheet)) (get_or ss i no_sheet) → xs ≡ word_stored (eqb (mark ss i) 0) ws i w v → v < 2 ^ 16
+    → sheet_meaning n (set ss i s) xs ≡ after_program (sheet_meaning n ss ws) b p w v
+programmed_is n ss ws xs b p w v i s e es ew small =
+    let there : (programmable (sheet_meaning n ss ws) b p w ≡ true) × (first_of b p ss ≡ i) = ⊎_elim
         (λ (t : programmable (sheet_meaning n ss ws) b p w ≡ true). let is = sym (cond-true _ _ _ t) ∙ e in (t, cc))
         (λ (t : programmable (sheet_meaning n ss ws) b p w ≡ false). let is = sym (cond-false _ _ _ t) ∙ e in cc)
         (cases_Bool (programmable (sheet_meaning n ss ws) b p w)) in
-    ap₂ (sheet_meaning n) es ew
-    ∙ ap (λ i. sheet_meaning n (opened ss i) (word_stored (eqb (mark ss i) 0) ws i w v)) (sym there.1)
+    ap₂ (sheet_meaning n) (opened_by ss i s es) ew
+    ∙ ap (λ j. sheet_meaning n (opened ss j) (word_stored (eqb (mark ss j) 0) ws j w v)) (sym there.1)
     ∙ program_done n ss ws b p w v small there.0
     ∙ sym (cond-true _ _ _ there.0)
 
@@ -197,8 +205,8 @@ module _ (n : ℕ) (ss : List Sheet) (ws : List ℕ) (b : ℕ) where
     dead_block = λ b'. false;
   }
 
-pub erased_is : (n : ℕ) (ss us : List Sheet) (ws : List ℕ) (b : ℕ) → us ≡ sheets_erased n ss ws b → sheet_meaning n us ws ≡ after_erase (sheet_meaning n ss ws) b
-erased_is n ss us ws b e = ap (λ xs. sheet_meaning n xs ws) e ∙ ⊎_elim
+pub erased_is : (n : ℕ) (ss ms : List Sheet) (ws : List ℕ) (b : ℕ) → ms ≡ sheets_erased n ss ws b → sheet_meaning n ms ws ≡ after_erase (sheet_meaning n ss ws) b
+erased_is n ss ms ws b e = ap (λ xs. sheet_meaning n xs ws) e ∙ ⊎_elim
     (λ (t : erasable (sheet_meaning n ss ws) b ≡ true). ap (λ xs. sheet_meaning n xs ws) (cond-true _ _ _ t) ∙ erase_done n ss ws b ∙ sym (cond-true _ _ _ t))
     (λ (t : erasable (sheet_meaning n ss ws) b ≡ false). ap (λ xs. sheet_meaning n xs ws) (cond-false _ _ _ t) ∙ sym (cond-false _ _ _ t))
     (cases_Bool (erasable (sheet_meaning n ss ws) b))

@@ -6,9 +6,9 @@ ghost use Rattle.std.specs.List.{position};
 ghost use Rattle.flash.specs.Geometry.{block_pages, page_words};
 ghost use Rattle.flash.specs.Meaning.{word_at, outcome_of, programmable, after_program, erasable, after_erase};
 ghost use Rattle.flash.specs.Refusals.{refusal};
-ghost use Rattle.sheets.specs.Pages.{is_of, mark};
+ghost use Rattle.sheets.specs.Pages.{is_of};
 ghost use Rattle.sheets.specs.Checks.{number_of, lists_fit, byte_of, good_sheets, marked, cleared, good_now, walked, page_found, sheet_check, scratch_after};
-ghost use Rattle.sheets.specs.Contents.{blocks, seat_of, opened, word_stored, sheets_programmed, words_programmed, unmarked as without_mark, sheets_erased};
+ghost use Rattle.sheets.specs.Contents.{blocks, seat_of, written, word_stored, sheets_programmed, words_programmed, unmarked as without_mark, sheets_erased};
 ghost use Rattle.sheets.specs.Bounds.{capped, narrow};
 ghost use Rattle.sheets.specs.Held.{meant, Kept};
 ghost use Rattle.sheets.specs.Laws.{OwnsPage};
@@ -43,6 +43,18 @@ impl Sheet {
         } else {
             self
         }
+    }
+
+    // Sets the mark if it is 0, and says whether it was.
+    fn open(&mut self) -> bool
+        ensures fresh { result ≡ (self.old.written == 0) }
+        ensures sheet { self.new ≡ (if self.old.written == 0 then written self.old else self.old) }
+    {
+        let fresh = self.written == 0;
+        if fresh {
+            self.written = 1;
+        }
+        fresh
     }
 
     // Whether the sheet's page is in the array and not marked in the scratch.
@@ -100,20 +112,6 @@ fn lists_fit(count: usize, sheets: &[Sheet], words: &[u16]) -> bool
     ensures { result ≡ lists_fit count sheets.now words.now }
 {
     count <= MAX_BLOCKS && sheets.len() <= MAX_SHEETS && words.len() == sheets.len() * PAGE_WORDS
-}
-
-// Sets the mark of sheet k if it is 0, and says whether it was.
-fn open_sheet(sheets: &mut [Sheet], k: usize) -> bool
-    requires { k < length sheets.old }
-    ensures fresh { result ≡ (mark sheets.old k == 0) }
-    ensures sheets { sheets.new ≡ opened sheets.old k }
-{
-    let s = sheets[k];
-    let fresh = s.written == 0;
-    if fresh {
-        sheets[k] = Sheet { written: 1, ..s };
-    }
-    fresh
 }
 
 // ANDs bits into word w of sheet k, whose words are blanked first if it is fresh.
@@ -217,7 +215,7 @@ impl Array for Sheets<'_> {
         ensures kept { Kept self.old self.new }
     {
         let k = self.seat(at).ok_or(Failed)?;
-        let fresh = open_sheet(self.sheets, k);
+        let fresh = self.sheets[k].open();
         store(self.words, k, at.word, bits, fresh);
         Ok(())
     }
