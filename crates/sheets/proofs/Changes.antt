@@ -7,7 +7,7 @@ use Rattle.std.proofs.lemmas.List.Edits.{map_over_more}
 use Rattle.std.proofs.lemmas.Bool.{cond_both, cond-true, cond-false, cases_Bool, cases_eq, cases_lt}
 use Rattle.std.proofs.lemmas.Bool.Decides.{nat_tests}
 use Rattle.flash.specs.Geometry.{max_blocks, page_words, blank_word, bits16}
-use Rattle.flash.specs.Meaning.{word_at, programmable, programmed, after_program, erasable, erased, after_erase}
+use Rattle.flash.specs.Meaning.{programmable, programmed, after_program, erasable, erased, after_erase}
 use Rattle.flash.specs.Runs.{filled}
 use Rattle.flash.proofs.Bits.{and_16}
 use Rattle.flash.proofs.Runs.{length-filled, get_or-filled}
@@ -166,9 +166,9 @@ pub programmed_is : (n : ℕ) (ss : List Sheet) (ws xs : List ℕ) (b p w v i : 
     → sheet_meaning n (set ss i s) xs ≡ after_program (sheet_meaning n ss ws) b p w v
 programmed_is n ss ws xs b p w v i s e es ew small =
     let there : (programmable (sheet_meaning n ss ws) b p w ≡ true) × (first_of b p ss ≡ i) = ⊎_elim
-        (λ (t : programmable (sheet_meaning n ss ws) b p w ≡ true). let is = sym (cond-true _ _ _ t) ∙ e in (t, cc))
-        (λ (t : programmable (sheet_meaning n ss ws) b p w ≡ false). let is = sym (cond-false _ _ _ t) ∙ e in cc)
-        (cases_Bool (programmable (sheet_meaning n ss ws) b p w)) in
+    (λ (t : programmable (sheet_meaning n ss ws) b p w ≡ true). let is = sym (cond-true _ _ _ t) ∙ e in (t, cc))
+    (λ (t : programmable (sheet_meaning n ss ws) b p w ≡ false). let is = sym (cond-false _ _ _ t) ∙ e in cc)
+    (cases_Bool (programmable (sheet_meaning n ss ws) b p w)) in
     ap₂ (sheet_meaning n) (opened_by ss i s es) ew
     ∙ ap (λ j. sheet_meaning n (opened ss j) (word_stored (eqb (mark ss j) 0) ws j w v)) (sym there.1)
     ∙ program_done n ss ws b p w v small there.0

@@ -3,12 +3,12 @@
 
 ghost use Rattle.std.specs.Prelude.{◌≡◌, ℕ, ◌+◌, ◌*◌, ◌<◌, ◌≤◌, true, [], map, length, take, is_ok, if◌then◌else◌, ◌==◌, slice_set};
 ghost use Rattle.std.specs.List.{position};
-ghost use Rattle.flash.specs.Geometry.{block_pages, page_words};
+ghost use Rattle.flash.specs.Geometry.{block_pages};
 ghost use Rattle.flash.specs.Meaning.{word_at, outcome_of, programmable, after_program, erasable, after_erase};
 ghost use Rattle.flash.specs.Refusals.{refusal};
 ghost use Rattle.sheets.specs.Pages.{is_of};
 ghost use Rattle.sheets.specs.Checks.{number_of, lists_fit, byte_of, good_sheets, marked, cleared, good_now, walked, page_found, sheet_check, scratch_after};
-ghost use Rattle.sheets.specs.Contents.{blocks, seat_of, written, word_stored, sheets_programmed, words_programmed, unmarked as without_mark, sheets_erased};
+ghost use Rattle.sheets.specs.Contents.{blocks, seat_of, written, sheets_programmed, words_programmed, unmarked as without_mark, sheets_erased};
 ghost use Rattle.sheets.specs.Bounds.{capped, narrow};
 ghost use Rattle.sheets.specs.Held.{meant, Kept};
 ghost use Rattle.sheets.specs.Laws.{OwnsPage};
@@ -114,18 +114,6 @@ fn lists_fit(count: usize, sheets: &[Sheet], words: &[u16]) -> bool
     count <= MAX_BLOCKS && sheets.len() <= MAX_SHEETS && words.len() == sheets.len() * PAGE_WORDS
 }
 
-// ANDs bits into word w of sheet k, whose words are blanked first if it is fresh.
-fn store(words: &mut [u16], k: usize, w: usize, bits: u16, fresh: bool)
-    requires sheet { k * page_words + page_words ≤ length words.old }
-    requires word { w < page_words }
-    ensures { words.new ≡ word_stored fresh words.old k w bits }
-{
-    if fresh {
-        fill(words, k * PAGE_WORDS, PAGE_WORDS, BLANK);
-    }
-    words[k * PAGE_WORDS + w] &= bits;
-}
-
 // Clears the marks of a block's sheets.
 #[tactic(auto, using(crate::proofs::Changes::unmark_more))]
 fn unmark(sheets: &mut [Sheet], block: usize)
@@ -215,8 +203,10 @@ impl Array for Sheets<'_> {
         ensures kept { Kept self.old self.new }
     {
         let k = self.seat(at).ok_or(Failed)?;
-        let fresh = self.sheets[k].open();
-        store(self.words, k, at.word, bits, fresh);
+        if self.sheets[k].open() {
+            fill(self.words, k * PAGE_WORDS, PAGE_WORDS, BLANK);
+        }
+        self.words[k * PAGE_WORDS + at.word] &= bits;
         Ok(())
     }
 
