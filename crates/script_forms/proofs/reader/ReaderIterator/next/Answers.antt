@@ -1,8 +1,8 @@
 use Rattle.std.proofs.Common.{◌≡◌, ◌∷◌, length, rules, arith, ap}
 use Rattle.script_forms.specs.Lines.{lines_of}
 use Rattle.script_forms.proofs.FirstLine.{first_line}
-use Rattle.script_forms.proofs.lines.ReaderIterator.next.Goals.{After-split_line}
-use Rattle.script_forms.proofs.lines.ReaderIterator.next.Goals as goal
+use Rattle.script_forms.proofs.reader.ReaderIterator.next.Goals.{After-split_line}
+use Rattle.script_forms.proofs.reader.ReaderIterator.next.Goals as goal
 
 gives_first : (c : After-split_line) → c.args.self.now.left ≡ c.split_line.result.0.now ∷ lines_of c.split_line.result.1.now
 gives_first c =

@@ -3,8 +3,8 @@ use Rattle.std.specs.List.{position_or_len}
 use Rattle.std.proofs.lemmas.List.Sums.{position_or_len_is}
 use Rattle.std.proofs.lemmas.List.{take_rest, take_all, drop_all}
 use Rattle.script_forms.specs.Lines.{is_feed}
-use Rattle.script_forms.proofs.lines.split_line.Goals.{In-Some, In-None}
-use Rattle.script_forms.proofs.lines.split_line.Goals as goal
+use Rattle.script_forms.proofs.reader.split_line.Goals.{In-Some, In-None}
+use Rattle.script_forms.proofs.reader.split_line.Goals as goal
 
 at_feed : (c : In-Some) → position_or_len is_feed c.args.script.now ≡ c.in-Some.end
 at_feed c = position_or_len_is is_feed c.args.script.now c.in-Some.end 0 (search rules) (search rules) (search rules)
