@@ -1,6 +1,6 @@
 // The reader of a script, which gives it line by line.
-ghost use Rattle.std.specs.Prelude.{◌≡◌};
-ghost use Rattle.std.specs.List.{before_first, after_first};
+ghost use Rattle.std.specs.Prelude.{◌≡◌, ◌≤◌, length};
+ghost use Rattle.std.specs.List.{before_first, after_first, position_or_len};
 ghost use Rattle.std.specs.Iterator.{item_count};
 ghost use Rattle.script_forms.specs.Lines.{lines_of, is_feed};
 ghost use Rattle.script_forms.specs.Parts.{GivesLine};
@@ -26,15 +26,24 @@ impl<'a> Model for Reader<'a> {
     ghost invariant = { λ r. r.lines + length r.rest.now < 2 ^ 64 };
 }
 
+// How many bytes a script's first line has, without its line feed.
+fn line_len(script: &[u8]) -> usize
+    ensures value { result ≡ position_or_len is_feed script.now }
+    ensures bound { result ≤ length script.now }
+{
+    script
+        .iter()
+        .position(|b| *b == b'\n')
+        .unwrap_or(script.len())
+}
+
 // A script's first line without its line feed, and what comes after that.
 fn split_line(script: &[u8]) -> (&[u8], &[u8])
     ensures line { result.0.now ≡ before_first is_feed script.now }
     ensures rest { result.1.now ≡ after_first is_feed script.now }
 {
-    match script.iter().position(|b| *b == b'\n') {
-        Some(end) => (&script[..end], &script[end + 1..]),
-        None => (script, &[]),
-    }
+    let end = line_len(script);
+    (&script[..end], script.get(end + 1..).unwrap_or(&[]))
 }
 
 impl<'a> Reader<'a> {
@@ -57,6 +66,7 @@ impl<'a> Iterator for Reader<'a> {
 
     ghost remaining = { item_count (λ r. r.left) };
 
+    #[tactic(auto, using(crate::proofs::FirstLine::first_line))]
     fn next(&mut self) -> Option<Line<'a>> {
         if self.rest.is_empty() {
             return None;
