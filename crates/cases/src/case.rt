@@ -17,12 +17,8 @@ impl<'a> Case<'a> {
             ((name script expected : List ℕ) → OneLine name → text.now ≢ case_text name script expected)
             (λ c. (text.now ≡ case_text c.name.now c.script.now c.transcript.now) × OneLine c.name.now) }
     {
-        let Some((name, rest)) = text.split_once('\n') else {
-            return None;
-        };
-        let Some((script, transcript)) = rest.split_once("=\n") else {
-            return None;
-        };
+        let (name, rest) = text.split_once('\n')?;
+        let (script, transcript) = rest.split_once("=\n")?;
         Some(Case {
             name,
             script,

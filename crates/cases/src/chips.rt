@@ -10,6 +10,7 @@ use script::play_script;
 use std::alloc::{AllocError, Global};
 
 // Puts the first and the last main and spare words of page 0 of block 0, and the first word of block 7.
+#[tactic(auto, unfolding(crate::specs::Chips::marked))]
 fn mark(words: &mut [u16])
     requires { 236544 < length words.old }
     ensures { words.new ≡ marked words.old }

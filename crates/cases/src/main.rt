@@ -11,7 +11,7 @@ ghost use Rattle.std.specs.Str.{bytes_eq};
 ghost use Rattle.script.specs.Transcript.{transcript};
 ghost use Rattle.cases.specs.Chips.{fresh};
 
-use anyhow::anyhow;
+use anyhow::{bail, ensure};
 use case::Case;
 use chips::played;
 use std::{env, fs};
@@ -19,13 +19,11 @@ use tally::Tally;
 
 // Prints the first line at which two transcripts differ.
 fn print_difference(rt: &HostRuntime, expected: &str, came: &str) -> anyhow::Result<()> {
-    let mut same = 0usize;
-    for (wanted, other) in expected.lines().zip(came.lines()) {
-        if wanted != other {
-            break;
-        }
-        same = same.saturating_add(1);
-    }
+    let same = expected
+        .lines()
+        .zip(came.lines())
+        .take_while(|(wanted, other)| wanted == other)
+        .count();
     let line = same.saturating_add(1);
     let wanted = expected.lines().nth(same).unwrap_or("nothing");
     let other = came.lines().nth(same).unwrap_or("nothing");
@@ -67,23 +65,16 @@ fn play_file(rt: &HostRuntime, file: &str, tally: &mut Tally) -> anyhow::Result<
 
 // Plays the cases of all files that are named, and counts them.
 fn main(rt: HostRuntime) -> anyhow::Result<()> {
-    let mut tally = Tally {
-        cases: 0,
-        differ: 0,
-    };
+    let mut tally = Tally::default();
     for path in env::args(&rt)?.skip(1) {
         let Ok(text) = fs::read_to_string(&rt, path.as_str()) else {
-            return Err(anyhow!(format!(in rt.alloc(); "{path} cannot be read, or is no text")?));
+            bail!(format!(in rt.alloc(); "{path} cannot be read, or is no text")?);
         };
         play_file(&rt, text.as_str(), &mut tally)?;
     }
     let Tally { cases, differ } = tally;
     println!(rt; "{cases} cases, {differ} differ")?;
-    if cases == 0 {
-        return Err(anyhow!("no case was played; usage: cases FILE.."));
-    }
-    if differ > 0 {
-        return Err(anyhow!("some cases differ"));
-    }
+    ensure!(cases > 0, "no case was played; usage: cases FILE..");
+    ensure!(differ == 0, "some cases differ");
     Ok(())
 }

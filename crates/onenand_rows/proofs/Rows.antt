@@ -122,5 +122,5 @@ leads r p k suits along =
     let t = and_parts (leb r.from k) (ltb (k - r.from) r.length) along in
     let h = leb-true r.from k t.0 in
     let here : r.from + (k - r.from) ≡ k = omega arith in
-    let led : Led (Some r) p = subst (λ (x : Option Row). Led x p) (sym suits.1) (begun p suits.0) in
+    let led : Led (Some r) p = subst (λ (x : Option Row). Led x p) (sym suits) (begun p r.from) in
     subst (λ j. Leads r p j (k - r.from)) here (led (k - r.from) (ltb-true (k - r.from) r.length t.1))

@@ -62,6 +62,12 @@ abbrev pub at_tick : Running → ℕ → Running
 at_tick Idle k = Idle
 at_tick (Runs p j) k = Runs p k
 
--- a row, or none, suits what runs: it is what `row_of` gives for the same plan at some tick, which a row tells
+-- what ran as a row began: at the row's first tick, and where there is no row, now
+abbrev pub began : Option Row → Running → Running
+began None u = u
+began (Some r) u = at_tick u r.from
+
+-- a row suits what runs: it is what `row_of` gives for the same plan at the row's first tick; and there is none only where the
+-- next tick begins none
 abbrev pub Suits : Option Row → Running → Type 0
-Suits r u = (k : ℕ) × (r ≡ row_of (at_tick u k))
+Suits r u = r ≡ row_of (began r u)

@@ -1,20 +1,20 @@
--- Writes, reads and rounds of the load, opened.
-use Rattle.std.proofs.Common.{◌≡◌, ℕ, suc, ◌+◌, sym, refl, ap, ◌∙◌, add-one}
-use Rattle.onenand_rules.specs.declared.calls.Call.TheVariants.{Read, Write}
+-- Reads and rounds of the load, opened.
+use Rattle.std.proofs.Common.{◌≡◌, ℕ, suc, ◌+◌, Ok, Err, Result, sym, refl, ap, ◌∙◌, add-one}
+use Rattle.std.specs.Result.{result_unwrap_or}
+use Rattle.onenand_rules.specs.declared.calls.Call.TheVariants.{Read}
+use Rattle.onenand_rules.specs.declared.calls.Refusal.{Refusal}
 use Rattle.onenand_rules.specs.State.{State}
-use Rattle.onenand_rules.specs.Calls.{Reply}
+use Rattle.onenand_rules.specs.Calls.{read_reply}
 use Rattle.onenand_rules.specs.Steps.{step}
 use Rattle.onenand_laws.specs.Observer.{word_in}
 use Rattle.speed.specs.declared.Tally.{Tally}
-use Rattle.speed.specs.Load.{wrote, shown_at, round_end, tallied, rounds_end, rounds_tally}
+use Rattle.speed.specs.Load.{shown_at, round_end, tallied, rounds_end, rounds_tally}
 
-pub writes_there : (s t : State) (a w : ℕ) → t ≡ (step s (Write a w)).0 → t ≡ wrote s a w
-unfolding wrote
-writes_there s t a w e = e
-
-pub reads_there : (s : State) (a : ℕ) (r : Reply) → r ≡ (step s (Read a)).1 → word_in r ≡ shown_at s a
+-- the word of a read, and 0 where it is refused
+pub reads_there : (s : State) (a : ℕ) (r : Result ℕ Refusal) → read_reply r ≡ (step s (Read a)).1 → result_unwrap_or r 0 ≡ shown_at s a
 unfolding shown_at
-reads_there s a r e = ap word_in e
+reads_there s a (Ok w) e = ap word_in e
+reads_there s a (Err f) e = ap word_in e
 
 -- no round, and a round more
 pub no_round_leads : (s : State) → s ≡ rounds_end 0 s

@@ -43,12 +43,15 @@ round_end n s = cond (n % 64 == 63) (commanded (loaded_back n s) 0x0094) (loaded
 abbrev pub round_ticks : ℕ → State → ℕ
 round_ticks n s = ticks_taken (prepared n s) 0x0080 + ticks_taken (programmed n s) 0x0000 + cond (n % 64 == 63) (ticks_taken (loaded_back n s) 0x0094) 0
 
--- a tally, and the tally with a round more
+-- a tally, the tally with n ticks and a loaded word w more, and with a round more
 abbrev pub tally_of : ℕ → ℕ → Tally
 tally_of t c = record { ticks = t; checksum = c }
 
+abbrev pub counted_on : Tally → ℕ → ℕ → Tally
+counted_on t n w = tally_of ((t.ticks + n) % 2 ^ 64) ((t.checksum * 31 % 2 ^ 32 + w) % 2 ^ 32)
+
 abbrev pub tallied : ℕ → State → Tally → Tally
-tallied n s t = tally_of ((t.ticks + round_ticks n s) % 2 ^ 64) ((t.checksum * 31 % 2 ^ 32 + shown_at (loaded_back n s) 0x0200) % 2 ^ 32)
+tallied n s t = counted_on t (round_ticks n s) (shown_at (loaded_back n s) 0x0200)
 
 -- where the first n rounds lead, and their tally
 unfoldable pub rounds_end : ℕ → State → State
