@@ -23,7 +23,7 @@ pub form_by : (P : Result Asked ℕ → Type 0) (line : List ℕ) →
     (NoShape line → P (Err (begun line + 1))) → P (form_of line)
 form_by P line r w t m c none =
     cond_both _ _ _ P r (λ no_r. cond_both _ _ _ P w (λ no_w. cond_both _ _ _ P t (λ no_t. cond_both _ _ _ P m (λ no_m. cond_both _ _ _ P c (λ no_c.
-      none (record { read = no_r; write = no_w; tick = no_t; warm = no_m; cold = no_c }))))))
+    none (record { read = no_r; write = no_w; tick = no_t; warm = no_m; cold = no_c }))))))
 
 -- a line of some shape is a form
 pub some_form : (line : List ℕ) → (NoShape line → ⊥) → IsForm line

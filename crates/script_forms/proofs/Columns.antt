@@ -1,10 +1,10 @@
 -- The column of a line that is no form.
-use Rattle.std.proofs.Common.{◌≡◌, ℕ, zero, suc, ◌+◌, ◌-◌, ◌<◌, ◌≤◌, max, Bool, true, false, cond, eqb, List, [], ◌∷◌, ◌++◌, length, take, drop, Ok, Err, Result, refl, ap, ◌∙◌, subst, ⊎_elim, arith, eq-eqb, eqb-true}
+use Rattle.std.proofs.Common.{◌≡◌, ℕ, zero, suc, ◌+◌, ◌-◌, ◌<◌, ◌≤◌, max, true, false, cond, eqb, List, [], ◌∷◌, ◌++◌, length, take, drop, Ok, Err, Result, refl, ap, ◌∙◌, subst, ⊎_elim, arith, eq-eqb, eqb-true}
 use Rattle.std.proofs.str.Laws.{order}
 use Rattle.std.proofs.lemmas.Bool.{cond_both, both_ways, and_from, and_parts}
 use Rattle.std.proofs.lemmas.Bool.Decides.{nat_tests}
 use Rattle.std.proofs.lemmas.List.{length-append, length-take}
-use Rattle.script_forms.specs.Shapes.{read_shape, write_shape, tick_shape, warm_shape, cold_shape, is_digit, fits, agreed, has_shape, begun}
+use Rattle.script_forms.specs.Shapes.{read_shape, write_shape, tick_shape, warm_shape, cold_shape, fits, agreed, has_shape, begun}
 use Rattle.script_forms.specs.Grammar.{Asked}
 use Rattle.script_forms.specs.Laws.{Begins, ColumnIsFirst}
 use Rattle.script_forms.proofs.Choosing.{NoShape, form_by, some_form}
@@ -25,37 +25,36 @@ filled (s ∷ ss) =
     let h = filled ss in
     (ap (λ b. cond b (suc (agreed ss (fill ss))) 0) (fits_fill s) ∙ ap suc h.0, ap suc h.1)
 
--- what agrees with a shape can be filled up to a line of it
-whole : (ss bs : List ℕ) → let k = agreed ss bs in
-    (agreed ss (take k bs ++ fill (drop k ss)) ≡ length ss) × (length (take k bs ++ fill (drop k ss)) ≡ length ss)
+-- the first m bytes of a line, filled up to a line of the shape
+abbrev filled_from : List ℕ → List ℕ → ℕ → List ℕ
+filled_from ss bs m = take m bs ++ fill (drop m ss)
+
+-- what agrees with a shape can be filled up so
+whole : (ss bs : List ℕ) → let line = filled_from ss bs (agreed ss bs) in (agreed ss line ≡ length ss) × (length line ≡ length ss)
 whole [] bs = (refl, refl)
 whole (s ∷ ss) [] = filled (s ∷ ss)
-whole (s ∷ ss) (b ∷ bs) = by (fits s b) refl (whole ss bs)
-  where
-    by : (t : Bool) → fits s b ≡ t → let k = agreed ss bs in
-        (agreed ss (take k bs ++ fill (drop k ss)) ≡ length ss) × (length (take k bs ++ fill (drop k ss)) ≡ length ss) →
-        let m = cond t (suc (agreed ss bs)) 0 in
-        (agreed (s ∷ ss) (take m (b ∷ bs) ++ fill (drop m (s ∷ ss))) ≡ length (s ∷ ss)) × (length (take m (b ∷ bs) ++ fill (drop m (s ∷ ss))) ≡ length (s ∷ ss))
-    by true e h = (ap (λ t. cond t (suc (agreed ss (take (agreed ss bs) bs ++ fill (drop (agreed ss bs) ss)))) 0) e ∙ ap suc h.0, ap suc h.1)
-    by false e h = filled (s ∷ ss)
+whole (s ∷ ss) (b ∷ bs) =
+    let h = whole ss bs in
+    cond_both (fits s b) _ _ (λ m. let line = filled_from (s ∷ ss) (b ∷ bs) m in (agreed (s ∷ ss) line ≡ suc (length ss)) × (length line ≡ suc (length ss)))
+    (λ e. (ap (λ t. cond t (suc (agreed ss (filled_from ss bs (agreed ss bs)))) 0) e ∙ ap suc h.0, ap suc h.1))
+    (λ _. filled (s ∷ ss))
 
 -- a line of the shape that goes on from there
 abbrev full : List ℕ → List ℕ → List ℕ
-full ss bs = take (agreed ss bs) bs ++ fill (drop (agreed ss bs) ss)
+full ss bs = filled_from ss bs (agreed ss bs)
 
 is_whole : (ss bs : List ℕ) → has_shape ss (full ss bs) ≡ true
-is_whole ss bs = and_from _ _ (eq-eqb _ _ (whole ss bs).1) (eq-eqb _ _ (whole ss bs).0)
+is_whole ss bs = let h = whole ss bs in and_from _ _ (eq-eqb _ _ h.1) (eq-eqb _ _ h.0)
 
 -- an agreement with c bytes of a line, however they go on, is one with the line
 agreed_front : (c : ℕ) (ss bs rest : List ℕ) → c ≤ length bs → c ≤ agreed ss (take c bs ++ rest) → c ≤ agreed ss bs
 agreed_front zero ss bs rest h k = omega arith
 agreed_front (suc c) [] bs rest h k = k
 agreed_front (suc c) (s ∷ ss) [] rest h k = absurd (omega arith)
-agreed_front (suc c) (s ∷ ss) (b ∷ bs) rest h k = by (fits s b) k (agreed_front c ss bs rest (omega arith))
-  where
-    by : (t : Bool) → suc c ≤ cond t (suc (agreed ss (take c bs ++ rest))) 0 → (c ≤ agreed ss (take c bs ++ rest) → c ≤ agreed ss bs) → suc c ≤ cond t (suc (agreed ss bs)) 0
-    by true k h = let l : c ≤ agreed ss bs = h (omega arith) in omega arith
-    by false k h = k
+agreed_front (suc c) (s ∷ ss) (b ∷ bs) rest h k =
+    cond_both (fits s b) _ _ (λ n. suc c ≤ n)
+    (λ e. let j = rw e at k in let i : c ≤ agreed ss bs = agreed_front c ss bs rest (omega arith) (omega arith) in omega arith)
+    (λ e. rw e at k)
 
 -- no agreement goes past the line
 agreed_within : (ss bs : List ℕ) → agreed ss bs ≤ length bs
@@ -73,7 +72,7 @@ record Front (line : List ℕ) (n : ℕ) : Type 0 where
 begins : (line : List ℕ) → Front line (begun line)
 begins line =
     longer (so_far read_shape (λ none. none.read)) (longer (so_far write_shape (λ none. none.write)) (longer (so_far tick_shape (λ none. none.tick))
-      (longer (so_far warm_shape (λ none. none.warm)) (so_far cold_shape (λ none. none.cold)))))
+    (longer (so_far warm_shape (λ none. none.warm)) (so_far cold_shape (λ none. none.cold)))))
   where
     longer : {a b : ℕ} → Front line a → Front line b → Front line (max a b)
     longer {a} {b} p q = ⊎_elim

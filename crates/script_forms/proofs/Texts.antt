@@ -2,7 +2,7 @@
 use Rattle.std.proofs.Common.{◌≡◌, ℕ, suc, ◌+◌, ◌*◌, ◌/◌, ◌%◌, ◌<◌, Bool, true, false, cond, eqb, List, [], ◌∷◌, ◌++◌, length, get_or, take, drop, Ok, Err, Result, codes, sym, refl, ap, ◌∙◌, subst, arith, eqb-true}
 use Rattle.std.proofs.lemmas.Bool.{and_parts, cond_both}
 use Rattle.std.proofs.lemmas.Bool.Decides.{nat_tests}
-use Rattle.script_forms.specs.Shapes.{read_shape, write_shape, tick_shape, warm_shape, cold_shape, is_digit, fits, agreed, has_shape, begun}
+use Rattle.script_forms.specs.Shapes.{read_shape, write_shape, tick_shape, warm_shape, cold_shape, is_digit, fits, agreed, has_shape}
 use Rattle.script_forms.specs.Grammar.{Asked, read, write, tick, warm, cold, digit_of, worth, number_at, form_of, digit_for, hex4, spelt}
 use Rattle.script_forms.specs.Laws.{Words, FormIsItsText}
 use Rattle.script_forms.proofs.Choosing.{form_by}
