@@ -5,24 +5,16 @@ ghost use Rattle.std.specs.Prelude.{◌≡◌};
 ghost use Rattle.image.specs.Contents.{words_programmed as image_programmed, words_erased as image_erased};
 ghost use Rattle.sheets.specs.Contents.{sheets_programmed, words_programmed as sheet_words_programmed, sheets_erased};
 
-use flash::Array;
+use flash::{Array, Location};
 use image::Image;
 use sheets::{Sheet, Sheets};
 
 // Programs one word of an image and erases another block of it.
-pub fn change_image<'a>(
-    words: &'a mut [u16],
-    worn: &'a [u8],
-    block: usize,
-    page: usize,
-    word: usize,
-    bits: u16,
-    other: usize,
-)
-    ensures { words.new ≡ image_erased (image_programmed words.old worn.now block page word bits) worn.now other }
+pub fn change_image<'a>(words: &'a mut [u16], worn: &'a [u8], at: Location, bits: u16, other: usize)
+    ensures { words.new ≡ image_erased (image_programmed words.old worn.now at.block at.page at.word bits) worn.now other }
 {
     let mut image = Image::new(words, worn);
-    let _ = image.program(block, page, word, bits);
+    let _ = image.program(at, bits);
     let _ = image.erase(other);
 }
 
@@ -31,16 +23,14 @@ pub fn program_sheets<'a>(
     count: usize,
     sheets: &'a mut [Sheet],
     words: &'a mut [u16],
-    block: usize,
-    page: usize,
-    word: usize,
+    at: Location,
     bits: u16,
 )
-    ensures sheets { sheets.new ≡ sheets_programmed count sheets.old words.old block page word }
-    ensures words { words.new ≡ sheet_words_programmed count sheets.old words.old block page word bits }
+    ensures sheets { sheets.new ≡ sheets_programmed count sheets.old words.old at.block at.page at.word }
+    ensures words { words.new ≡ sheet_words_programmed count sheets.old words.old at.block at.page at.word bits }
 {
     let mut array = Sheets::new(count, sheets, words);
-    let _ = array.program(block, page, word, bits);
+    let _ = array.program(at, bits);
 }
 
 // Erases one block of a sheet array.
@@ -55,7 +45,7 @@ pub fn erase_sheets<'a>(count: usize, sheets: &'a mut [Sheet], words: &'a mut [u
 #[cfg(test)]
 mod tests {
     use flash::{
-        Array, BLANK, BLOCK_WORDS, MAX_BLOCKS, Outcome, PAGE_WORDS, main_word, spare_word,
+        Array, BLANK, BLOCK_WORDS, Failed, Location, MAX_BLOCKS, PAGE_WORDS, main_word, spare_word,
     };
     use image::{Image, ImageFault};
     use sheets::{MAX_SHEETS, Sheet, SheetFault, Sheets};
@@ -68,6 +58,13 @@ mod tests {
         written: 0,
     };
 
+    // A word of a page of a block.
+    fn at(block: usize, page: usize, word: usize) -> Location
+        ensures { result ≡ record { block = block; page = page; word = word } }
+    {
+        Location { block, page, word }
+    }
+
     // An array of no blocks reads blank and takes nothing.
     #[test]
     fn no_blocks(rt: HostRuntime) {
@@ -77,9 +74,9 @@ mod tests {
         let mut words = [0u16; 1];
         let mut array = Image::new(&mut words, &[]);
         assert_eq!(rt; array.count(), 0);
-        assert_eq!(rt; array.read(0, 0, 0), BLANK);
-        assert_eq!(rt; array.program(0, 0, 0, 0), Outcome::Failed);
-        assert_eq!(rt; array.erase(0), Outcome::Failed);
+        assert_eq!(rt; array.read(at(0, 0, 0)), BLANK);
+        assert_eq!(rt; array.program(at(0, 0, 0), 0), Err(Failed));
+        assert_eq!(rt; array.erase(0), Err(Failed));
         assert_eq!(rt; words[0], 0);
     }
 
@@ -92,10 +89,10 @@ mod tests {
         assert_eq!(rt; image::check(words.as_slice(), &worn), Ok(()));
         let mut array = Image::new(words.as_mut_slice(), &worn);
         assert_eq!(rt; array.count(), 256);
-        assert_eq!(rt; array.program(255, 63, 527, 0x1234), Outcome::Done);
-        assert_eq!(rt; array.program(256, 0, 0, 0), Outcome::Failed);
-        assert_eq!(rt; array.program(255, 64, 0, 0), Outcome::Failed);
-        assert_eq!(rt; array.program(255, 63, 528, 0), Outcome::Failed);
+        assert_eq!(rt; array.program(at(255, 63, 527), 0x1234), Ok(()));
+        assert_eq!(rt; array.program(at(256, 0, 0), 0), Err(Failed));
+        assert_eq!(rt; array.program(at(255, 64, 0), 0), Err(Failed));
+        assert_eq!(rt; array.program(at(255, 63, 528), 0), Err(Failed));
         assert_eq!(rt; words.get(255 * 33_792 + 33_791).copied(), Some(0x1234));
         Ok(())
     }
@@ -117,16 +114,16 @@ mod tests {
     fn most_sheets(rt: HostRuntime) -> Result<(), Fail> {
         let mut words = [BLANK; MAX_SHEETS * PAGE_WORDS];
         let mut list = [SHEET; MAX_SHEETS];
-        for k in 0..64 {
-            list[k as usize].page = k;
+        for (sheet, page) in list.iter_mut().zip(0..) {
+            sheet.page = page;
         }
         let mut scratch = [7u8; 65];
         assert_eq!(rt; sheets::check(1, &list, &words, &mut scratch), Ok(()));
         assert_eq!(rt; (scratch[0], scratch[63], scratch[64]), (1, 1, 7));
         let mut array = Sheets::new(1, &mut list, &mut words);
-        assert_eq!(rt; array.program(0, 63, 527, 0x00FF), Outcome::Done);
-        assert_eq!(rt; array.read(0, 63, 527), 0x00FF);
-        assert_eq!(rt; array.read(0, 63, 526), BLANK);
+        assert_eq!(rt; array.program(at(0, 63, 527), 0x00FF), Ok(()));
+        assert_eq!(rt; array.read(at(0, 63, 527)), 0x00FF);
+        assert_eq!(rt; array.read(at(0, 63, 526)), BLANK);
         Ok(())
     }
 
@@ -171,9 +168,9 @@ mod tests {
         assert_eq!(rt; scratch[66], 1);
         assert_eq!(rt; scratch[67], 0);
         let mut array = Sheets::new(2, &mut list, &mut words);
-        assert_eq!(rt; array.read(1, 2, 0), 0x5555);
-        assert_eq!(rt; array.erase(1), Outcome::Done);
-        assert_eq!(rt; array.read(1, 2, 0), BLANK);
+        assert_eq!(rt; array.read(at(1, 2, 0)), 0x5555);
+        assert_eq!(rt; array.erase(1), Ok(()));
+        assert_eq!(rt; array.read(at(1, 2, 0)), BLANK);
         assert_eq!(rt; list[1].written, 0);
         assert_eq!(rt; words[0], 0x5555);
     }

@@ -1,8 +1,7 @@
 -- A table of words in a page, and what the tour makes of an array.
-use Rattle.std.specs.Prelude.{ℕ, ◌+◌, List, [], ◌∷◌, codes}
+use Rattle.std.specs.Prelude.{ℕ, ◌+◌, List, [], ◌∷◌, Ok, Err, Result, codes}
 use Rattle.flash.specs.Meaning.{Meaning, word_at, after_program, after_erase}
-use Rattle.flash.specs.declared.Outcome.{Outcome}
-use Rattle.flash.specs.declared.Outcome.TheVariants.{Done, Failed}
+use Rattle.flash.specs.declared.Failed.{Failed}
 
 -- the array after a table was programmed, word after word, from word i of a page on
 unfoldable pub stored : Meaning → ℕ → ℕ → ℕ → List ℕ → Meaning
@@ -13,10 +12,10 @@ stored m b p i (v ∷ vs) = stored (after_program m b p i v) b p (i + 1) vs
 abbrev pub four_words : Meaning → ℕ → ℕ → List ℕ
 four_words m b p = word_at m b p 0 ∷ word_at m b p 1 ∷ word_at m b p 2 ∷ word_at m b p 3 ∷ []
 
--- how an outcome is told
-abbrev pub told : Outcome → List ℕ
-told Done = codes "done"
-told Failed = codes "failed"
+-- how it is told whether an array did what it was asked
+abbrev pub told : Result (Unit {0}) Failed → List ℕ
+told (Ok u) = codes "done"
+told (Err e) = codes "failed"
 
 -- the array after a first and a second table went into a page, and its block was erased;
 -- a program of page q of block d and an erase of block c were tried in between

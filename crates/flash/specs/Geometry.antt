@@ -25,6 +25,10 @@ blank_word = 0xFFFF
 abbrev pub bits16 : ℕ → ℕ
 bits16 x = x % 2 ^ 16
 
+-- where word i of sector s stands in its page, of the words that stand from `first` on, `each` of them a sector
+abbrev pub sector_word : ℕ → ℕ → ℕ → ℕ → Option ℕ
+sector_word first each s i = cond (nat_lt s 2 && nat_lt i each) (Some (first + (each * s + i))) None
+
 -- where main word i of sector s stands in its page
 abbrev pub main_word : ℕ → ℕ → Option ℕ
 main_word s i = cond (nat_lt s 2 && nat_lt i 256) (Some (256 * s + i)) None

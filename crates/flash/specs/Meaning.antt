@@ -1,8 +1,7 @@
 -- What a flash array means, and what reading, programming and erasing make of that.
-use Rattle.std.specs.Prelude.{ℕ, Bool, true, false, cond, not, ◌&&◌, ◌==◌, bit_and, nat_lt}
+use Rattle.std.specs.Prelude.{ℕ, Bool, true, false, cond, not, ◌&&◌, ◌==◌, bit_and, nat_lt, Ok, Err, Result}
 use Rattle.flash.specs.Geometry.{block_pages, page_words, blank_word}
-use Rattle.flash.specs.declared.Outcome.{Outcome}
-use Rattle.flash.specs.declared.Outcome.TheVariants.{Done, Failed}
+use Rattle.flash.specs.declared.Failed.{Failed}
 
 -- a count of blocks, the words by block, page and word, the dead pages and the dead blocks
 pub record Meaning : Type 0 where
@@ -20,9 +19,9 @@ abbrev pub word_at : Meaning → ℕ → ℕ → ℕ → ℕ
 word_at m b p w = cond (in_range m b p w) (m.word b p w) blank_word
 
 -- what programming or erasing answers, by whether it was done
-abbrev pub outcome_of : Bool → Outcome
-outcome_of true = Done
-outcome_of false = Failed
+abbrev pub outcome_of : Bool → Result (Unit {0}) Failed
+outcome_of true = Ok tt
+outcome_of false = Err (record {})
 
 -- a word that can be programmed: in range, in a page that is not dead
 abbrev pub programmable : Meaning → ℕ → ℕ → ℕ → Bool

@@ -1,18 +1,18 @@
 -- What reads, programs and erases of the caller's words do to the image's meaning.
-use Rattle.std.proofs.Common.{◌≡◌, ℕ, ◌+◌, ◌*◌, ◌/◌, ◌%◌, ◌^◌, ◌<◌, ◌≤◌, true, false, cond, not, ◌&&◌, eqb, ltb, leb, List, length, get_or, set, sym, ap, ◌∙◌, ⊎_elim, arith}
+use Rattle.std.proofs.Common.{◌≡◌, ℕ, ◌+◌, ◌*◌, ◌/◌, ◌%◌, ◌^◌, ◌<◌, ◌≤◌, true, false, cond, not, ◌&&◌, eqb, ltb, leb, List, length, get_or, set, Some, sym, ap, ◌∙◌, ⊎_elim, arith}
 use mathlib.Core.Path.{fun_ext}
 use lib.Bits.{bit_and}
 use Rattle.std.proofs.lemmas.List.{length-set, get_or-set_same, get_or-set_other, get_or_default}
 use Rattle.std.proofs.lemmas.Bool.{cond_both, cond-true, cond-false, cases_Bool, cases_eq, and_parts, ltb-true}
 use Rattle.std.proofs.lemmas.Bool.Decides.{nat_tests}
 use Rattle.flash.specs.Geometry.{max_blocks, block_pages, page_words, block_words, blank_word, bits16}
-use Rattle.flash.specs.Meaning.{word_at, in_range, programmable, programmed, after_program, erasable, erased, after_erase}
+use Rattle.flash.specs.Meaning.{in_range, programmable, programmed, after_program, erasable, erased, after_erase}
 use Rattle.flash.specs.Runs.{filled}
 use Rattle.flash.proofs.Bits.{and_16}
 use Rattle.flash.proofs.Runs.{length-filled, get_or-filled}
 use Rattle.image.specs.Layout.{place}
 use Rattle.image.specs.Checks.{whole_blocks, byte_each}
-use Rattle.image.specs.Contents.{blocks, image_meaning, word_held, words_programmed, words_erased}
+use Rattle.image.specs.Contents.{blocks, image_meaning, place_of, words_erased}
 use Rattle.image.specs.Bounds.{whole}
 
 -- the count goes by how many words there are
@@ -32,17 +32,6 @@ place_in ws wn b p w t =
     let room = block_in ws wn b h in
     let low : (p < block_pages) × (w < page_words) = (grind (arith, nat_tests), grind (arith, nat_tests)) in
     omega (arith, low.0, low.1)
-
-pub held_is : (ws wn : List ℕ) (b p w : ℕ) → word_held ws wn b p w < 2 ^ 16 → word_held ws wn b p w ≡ word_at (image_meaning ws wn) b p w
-held_is ws wn b p w h = ⊎_elim
-    (λ (t : in_range (image_meaning ws wn) b p w ≡ true).
-    let e = get_or_default ws (place b p w) 0 blank_word (place_in ws wn b p w t) in
-    let s = cond-true (in_range (image_meaning ws wn) b p w) (get_or ws (place b p w) 0) blank_word t in
-    let m : get_or ws (place b p w) 0 % 2 ^ 16 ≡ get_or ws (place b p w) 0 = omega arith in
-    let n = ap bits16 e in
-    grind (arith, nat_tests))
-    (λ (t : in_range (image_meaning ws wn) b p w ≡ false). grind (arith, nat_tests))
-    (cases_Bool (in_range (image_meaning ws wn) b p w))
 
 module _ (ws wn : List ℕ) (b p w v : ℕ) (h : v < 2 ^ 16) (t : programmable (image_meaning ws wn) b p w ≡ true) where
   abbrev at : ℕ
@@ -77,11 +66,15 @@ module _ (ws wn : List ℕ) (b p w v : ℕ) (h : v < 2 ^ 16) (t : programmable (
     dead_block = (image_meaning ws wn).dead_block;
   }
 
-pub programmed_is : (ws wn : List ℕ) (b p w v : ℕ) → v < 2 ^ 16 → image_meaning (words_programmed ws wn b p w v) wn ≡ after_program (image_meaning ws wn) b p w v
-programmed_is ws wn b p w v h = ⊎_elim
-    (λ (t : programmable (image_meaning ws wn) b p w ≡ true). ap (λ xs. image_meaning xs wn) (cond-true _ _ _ t) ∙ program_done ws wn b p w v h t ∙ sym (cond-true _ _ _ t))
-    (λ (t : programmable (image_meaning ws wn) b p w ≡ false). ap (λ xs. image_meaning xs wn) (cond-false _ _ _ t) ∙ sym (cond-false _ _ _ t))
-    (cases_Bool (programmable (image_meaning ws wn) b p w))
+pub programmed_is : (ws wn : List ℕ) (b p w v k : ℕ) → place_of ws wn b p w ≡ Some k → erasable (image_meaning ws wn) b ≡ true → v < 2 ^ 16
+    → image_meaning (set ws k (bit_and (get_or ws k 0) v)) wn ≡ after_program (image_meaning ws wn) b p w v
+programmed_is ws wn b p w v k e s h =
+    let there : (in_range (image_meaning ws wn) b p w ≡ true) × (place b p w ≡ k) = ⊎_elim
+    (λ (t : in_range (image_meaning ws wn) b p w ≡ true). let is = sym (cond-true _ _ _ t) ∙ e in (t, cc))
+    (λ (t : in_range (image_meaning ws wn) b p w ≡ false). let is = sym (cond-false _ _ _ t) ∙ e in cc)
+    (cases_Bool (in_range (image_meaning ws wn) b p w)) in
+    let t : programmable (image_meaning ws wn) b p w ≡ true = grind (arith, nat_tests) in
+    ap (λ i. image_meaning (set ws i (bit_and (get_or ws i 0) v)) wn) (sym there.1) ∙ program_done ws wn b p w v h t ∙ sym (cond-true _ _ _ t)
 
 module _ (ws wn : List ℕ) (b : ℕ) (t : erasable (image_meaning ws wn) b ≡ true) where
   abbrev blank : List ℕ
@@ -107,8 +100,8 @@ module _ (ws wn : List ℕ) (b : ℕ) (t : erasable (image_meaning ws wn) b ≡ 
     dead_block = (image_meaning ws wn).dead_block;
   }
 
-pub erased_is : (ws wn : List ℕ) (b : ℕ) → image_meaning (words_erased ws wn b) wn ≡ after_erase (image_meaning ws wn) b
-erased_is ws wn b = ⊎_elim
-    (λ (t : erasable (image_meaning ws wn) b ≡ true). ap (λ xs. image_meaning xs wn) (cond-true _ _ _ t) ∙ erase_done ws wn b t ∙ sym (cond-true _ _ _ t))
-    (λ (t : erasable (image_meaning ws wn) b ≡ false). ap (λ xs. image_meaning xs wn) (cond-false _ _ _ t) ∙ sym (cond-false _ _ _ t))
+pub erased_is : (ws wn xs : List ℕ) (b : ℕ) → xs ≡ words_erased ws wn b → image_meaning xs wn ≡ after_erase (image_meaning ws wn) b
+erased_is ws wn xs b e = ap (λ l. image_meaning l wn) e ∙ ⊎_elim
+    (λ (t : erasable (image_meaning ws wn) b ≡ true). ap (λ l. image_meaning l wn) (cond-true _ _ _ t) ∙ erase_done ws wn b t ∙ sym (cond-true _ _ _ t))
+    (λ (t : erasable (image_meaning ws wn) b ≡ false). ap (λ l. image_meaning l wn) (cond-false _ _ _ t) ∙ sym (cond-false _ _ _ t))
     (cases_Bool (erasable (image_meaning ws wn) b))

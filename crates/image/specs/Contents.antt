@@ -27,10 +27,6 @@ image_meaning ws wn = record {
 abbrev pub place_of : List ℕ → List ℕ → ℕ → ℕ → ℕ → Option ℕ
 place_of ws wn b p w = cond (in_range (image_meaning ws wn) b p w) (Some (place b p w)) None
 
--- the word that a read finds
-abbrev pub word_held : List ℕ → List ℕ → ℕ → ℕ → ℕ → ℕ
-word_held ws wn b p w = cond (in_range (image_meaning ws wn) b p w) (slice_index ws (place b p w)) blank_word
-
 -- the caller's words after a program
 abbrev pub words_programmed : List ℕ → List ℕ → ℕ → ℕ → ℕ → ℕ → List ℕ
 words_programmed ws wn b p w v =

@@ -5,30 +5,29 @@ ghost use Rattle.std.specs.Prelude.{◌≡◌, length, is_some, if◌then◌else
 ghost use Rattle.flash.specs.Meaning.{word_at, outcome_of, programmable, after_program, erasable, after_erase};
 ghost use Rattle.flash.specs.Refusals.{refusal};
 ghost use Rattle.image.specs.Checks.{number_of, image_check};
-ghost use Rattle.image.specs.Contents.{blocks, place_of, word_held, words_programmed, words_erased};
-ghost use Rattle.image.specs.Held.{meant};
+ghost use Rattle.image.specs.Contents.{blocks, place_of, words_programmed, words_erased};
+ghost use Rattle.image.specs.Held.{meant, Kept};
 ghost use Rattle.image.specs.Bounds.{capped, narrow};
 
-use flash::{Array, BLANK, BLOCK_PAGES, BLOCK_WORDS, MAX_BLOCKS, Outcome, PAGE_WORDS, fill};
+use flash::{
+    Array, BLANK, BLOCK_PAGES, BLOCK_WORDS, Failed, Location, MAX_BLOCKS, Numbered, PAGE_WORDS,
+    fill,
+};
 
-// Why words and a worn list are no image.
+// Why words and a worn list are no image, by the numbers that the rules give.
 #[derive(Clone, Copy, PartialEq, Eq, Debug)]
 pub enum ImageFault {
     // The words are no whole blocks, or too many.
-    Words,
+    Words = 1,
     // The worn list has not one byte a block.
-    Worn,
+    Worn = 2,
 }
 
-impl ImageFault {
-    // The number that the rules give to the fault.
-    pub fn number(self) -> u8
-        ensures { result ≡ number_of self }
-    {
-        match self {
-            ImageFault::Words => 1,
-            ImageFault::Worn => 2,
-        }
+impl Numbered for ImageFault {
+    ghost number_of = { number_of };
+
+    fn number(self) -> u8 {
+        self as u8
     }
 }
 
@@ -83,54 +82,14 @@ impl<'a> Image<'a> {
     }
 
     // Where a word stands among the caller's words, if it is in range.
-    fn place(&self, block: usize, page: usize, word: usize) -> Option<usize>
-        ensures { result ≡ place_of self.now.words.now self.now.worn.now block page word }
+    fn place(&self, at: Location) -> Option<usize>
+        ensures { result ≡ place_of self.now.words.now self.now.worn.now at.block at.page at.word }
     {
-        if block < self.blocks() && page < BLOCK_PAGES && word < PAGE_WORDS {
-            Some(block * BLOCK_WORDS + page * PAGE_WORDS + word)
+        if at.block < self.blocks() && at.page < BLOCK_PAGES && at.word < PAGE_WORDS {
+            Some(at.block * BLOCK_WORDS + at.page * PAGE_WORDS + at.word)
         } else {
             None
         }
-    }
-
-    // The word that stands there, or a blank one.
-    fn held(&self, block: usize, page: usize, word: usize) -> u16
-        ensures { result ≡ word_held self.now.words.now self.now.worn.now block page word }
-    {
-        match self.place(block, page, word) {
-            Some(at) => self.words[at],
-            None => BLANK,
-        }
-    }
-
-    // ANDs bits into the word that stands there.
-    fn and_word(&mut self, block: usize, page: usize, word: usize, bits: u16) -> Outcome
-        ensures value { result ≡ outcome_of (programmable (meant self.old) block page word) }
-        ensures words { self.new.words.now ≡ words_programmed self.old.words.now self.old.worn.now block page word bits }
-        ensures worn { self.new.worn.now ≡ self.old.worn.now }
-        ensures lender { self.new.words.ghost_name ≡ self.old.words.ghost_name }
-    {
-        match self.place(block, page, word) {
-            Some(at) if self.sound(block) => {
-                self.words[at] &= bits;
-                Outcome::Done
-            }
-            _ => Outcome::Failed,
-        }
-    }
-
-    // Blanks the words of a block.
-    fn blank(&mut self, block: usize) -> Outcome
-        ensures value { result ≡ outcome_of (erasable (meant self.old) block) }
-        ensures words { self.new.words.now ≡ words_erased self.old.words.now self.old.worn.now block }
-        ensures worn { self.new.worn.now ≡ self.old.worn.now }
-        ensures lender { self.new.words.ghost_name ≡ self.old.words.ghost_name }
-    {
-        if !self.sound(block) {
-            return Outcome::Failed;
-        }
-        fill(self.words, block * BLOCK_WORDS, BLOCK_WORDS, BLANK);
-        Outcome::Done
     }
 }
 
@@ -138,41 +97,53 @@ impl<'a> Image<'a> {
 impl Array for Image<'_> {
     ghost meaning = { meant };
 
-    ghost capped = { λ s. capped s.words.now s.worn.now };
-
-    ghost narrow = { λ s. narrow s.words.now s.worn.now };
-
     fn count(&self) -> usize {
         self.blocks()
     }
 
-    fn read(&mut self, block: usize, page: usize, word: usize) -> u16
-        ensures value { result ≡ word_at (meant self.old) block page word }
+    fn read(&mut self, at: Location) -> u16
+        ensures value { result ≡ word_at (meant self.old) at.block at.page at.word }
         ensures same { meant self.new ≡ meant self.old }
         ensures words { self.new.words.now ≡ self.old.words.now }
-        ensures worn { self.new.worn.now ≡ self.old.worn.now }
-        ensures lender { self.new.words.ghost_name ≡ self.old.words.ghost_name }
+        ensures kept { Kept self.old self.new }
     {
-        self.held(block, page, word)
+        match self.place(at) {
+            Some(k) => self.words[k],
+            None => BLANK,
+        }
     }
 
-    fn program(&mut self, block: usize, page: usize, word: usize, bits: u16) -> Outcome
-        ensures value { result ≡ outcome_of (programmable (meant self.old) block page word) }
-        ensures after { meant self.new ≡ after_program (meant self.old) block page word bits }
-        ensures words { self.new.words.now ≡ words_programmed self.old.words.now self.old.worn.now block page word bits }
-        ensures worn { self.new.worn.now ≡ self.old.worn.now }
-        ensures lender { self.new.words.ghost_name ≡ self.old.words.ghost_name }
+    #[tactic(auto, using(crate::proofs::Changes::programmed_is))]
+    fn program(&mut self, at: Location, bits: u16) -> Result<(), Failed>
+        ensures value { result ≡ outcome_of (programmable (meant self.old) at.block at.page at.word) }
+        ensures after { meant self.new ≡ after_program (meant self.old) at.block at.page at.word bits }
+        ensures words { self.new.words.now ≡ words_programmed self.old.words.now self.old.worn.now at.block at.page at.word bits }
+        ensures kept { Kept self.old self.new }
     {
-        self.and_word(block, page, word, bits)
+        match self.place(at) {
+            Some(k) if self.sound(at.block) => {
+                self.words[k] &= bits;
+                Ok(())
+            }
+            _ => Err(Failed),
+        }
     }
 
-    fn erase(&mut self, block: usize) -> Outcome
+    #[tactic(auto, using(crate::proofs::Changes::erased_is))]
+    fn erase(&mut self, block: usize) -> Result<(), Failed>
         ensures value { result ≡ outcome_of (erasable (meant self.old) block) }
         ensures after { meant self.new ≡ after_erase (meant self.old) block }
         ensures words { self.new.words.now ≡ words_erased self.old.words.now self.old.worn.now block }
-        ensures worn { self.new.worn.now ≡ self.old.worn.now }
-        ensures lender { self.new.words.ghost_name ≡ self.old.words.ghost_name }
+        ensures kept { Kept self.old self.new }
     {
-        self.blank(block)
+        if !self.sound(block) {
+            return Err(Failed);
+        }
+        fill(self.words, block * BLOCK_WORDS, BLOCK_WORDS, BLANK);
+        Ok(())
     }
+
+    ghost capped = { λ s. capped s.words.now s.worn.now };
+
+    ghost narrow = { λ s. narrow s.words.now s.worn.now };
 }

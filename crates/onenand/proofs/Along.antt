@@ -1,7 +1,7 @@
 -- A tick along a row is the tick of what runs.
-use Rattle.std.proofs.Common.{◌≡◌, ℕ, ◌+◌, ◌-◌, ◌<◌, ◌≤◌, true, List, get_or, set, sym, ap, ◌∙◌, arith}
+use Rattle.std.proofs.Common.{◌≡◌, ℕ, ◌+◌, ◌-◌, ◌<◌, ◌≤◌, Bool, true, false, Some, is_ok, List, get_or, set, sym, refl, ap, ◌∙◌, arith}
 use Rattle.std.proofs.lemmas.Bool.{cond-true, lt-ltb}
-use Rattle.flash.specs.Meaning.{Meaning, word_at, programmable, programmed}
+use Rattle.flash.specs.Meaning.{Meaning, word_at, outcome_of, programmable, programmed}
 use Rattle.onenand_transfer.specs.declared.Transfer.{Transfer}
 use Rattle.onenand_rules.specs.declared.plans.Plan.{Plan}
 use Rattle.onenand_rules.specs.declared.plans.Running.TheVariants.{Runs}
@@ -16,6 +16,11 @@ use Rattle.onenand_rows.specs.declared.Row.{Row}
 use Rattle.onenand_rows.specs.Rows.{is_along, Suits}
 use Rattle.onenand_rows.proofs.Rows.{moves, Stands, Leads, leads}
 use Rattle.onenand_steps.specs.Moves.{moved_well, moved_data, moved_array}
+
+-- what was done went well
+pub went_well : (b : Bool) → is_ok (outcome_of b) ≡ true → b ≡ true
+went_well true e = refl
+went_well false e = e
 
 -- the state with word o of a row moved, that way, and k ticks had
 abbrev moved : State → Row → ℕ → Way → Plan → ℕ → State
@@ -40,7 +45,7 @@ module _ (s : State) (r : Row) (o : ℕ) (t : Transfer) (i : ℕ) (h : Stands r 
       ((λ j. programmed m (h.block j) (h.page j) (h.word j) (get_or d (h.place j) 0)) ∙ sym (cond-true _ _ _ e)))
 
 -- the row suits what runs, and the tick goes along it
-module _ (s : State) (r : Row) (p : Plan) (k : ℕ) (suits : Suits r (Runs p k)) (along : is_along r k ≡ true) where
+module _ (s : State) (r : Row) (p : Plan) (k : ℕ) (suits : Suits (Some r) (Runs p k)) (along : is_along r k ≡ true) where
   led : Leads r p k (k - r.from)
   led = leads r p k suits along
 

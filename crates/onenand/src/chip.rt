@@ -30,7 +30,7 @@ use onenand_steps::words::move_word;
 pub struct Chip<D: Array> {
     array: D,
     // Where the words stand that the next ticks move, worked out ahead: it says nothing that the core does not.
-    row: Row,
+    row: Option<Row>,
     core: Core,
     ghost suits: { Suits row core.running },
 }
@@ -69,7 +69,7 @@ impl<D: Array> Chip<D> {
         ensures answer { tick_of (tick_number result) ≡ (ticked (state_of self.old) (runs_on plan k)).1 }
         ensures state { state_of self.new ≡ (ticked (state_of self.old) (runs_on plan k)).0 }
     {
-        let progress = if !act(&mut self.array, &mut self.core, plan.action(k)) {
+        let progress = if act(&mut self.array, &mut self.core, plan.action(k)).is_err() {
             fail(&mut self.core.registers, plan);
             self.core.running = Running::Idle;
             Progress::Ended
@@ -94,13 +94,9 @@ impl<D: Array> Chip<D> {
             × (state_of self.new ≡ (step (state_of self.old) tick_call).0)) }
     {
         if let Running::Runs(_, k) = &mut self.core.running
-            && self.row.is_along(*k)
-            && move_word(
-                &mut self.array,
-                &mut self.core.dataram,
-                self.row,
-                *k - self.row.from,
-            )
+            && let Some(row) = self.row
+            && row.is_along(*k)
+            && move_word(&mut self.array, &mut self.core.dataram, row, *k - row.from).is_ok()
         {
             *k += 1;
             return Some(Progress::Running);
@@ -129,7 +125,7 @@ impl<D: Array> Chip<D> {
         self.core.registers.reset(Lock::Locked.protection_word());
         self.core.locks = [Lock::Locked; MAX_BLOCKS];
         self.core.running = Running::Idle;
-        self.row = Row::of(Running::Idle);
+        self.row = None;
     }
 
     // A cold reset.

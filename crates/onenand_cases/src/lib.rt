@@ -3,9 +3,8 @@
 
 ghost use Rattle.onenand_cases.specs.Cases.{HandChecked};
 
-// Stands for the theorem that every hand-checked case holds.
-pub fn hand_checked() -> bool
+// Has no work: its contract is the theorem that every hand-checked case holds.
+pub fn hand_checked()
     ensures { HandChecked }
 {
-    true
 }

@@ -1,8 +1,7 @@
 -- A block that is never read tells nothing: two chips whose arrays differ in it alone answer alike.
-use Rattle.std.proofs.Common.{◌≡◌, ℕ, zero, suc, ◌+◌, ◌<◌, Bool, true, false, cond, not, ◌&&◌, ◌||◌, eqb, ltb, List, [], ◌∷◌, map, set, sym, refl, ap, ◌∙◌, subst, inl, inr, arith}
-use lib.Bits.{bit_and}
+use Rattle.std.proofs.Common.{◌≡◌, ℕ, ◌+◌, ◌<◌, Bool, true, false, cond, not, ◌&&◌, ◌||◌, eqb, ltb, List, [], ◌∷◌, map, sym, refl, ap, ◌∙◌, subst, inl, inr, arith}
 use Rattle.std.specs.List.{range_with_len}
-use Rattle.std.proofs.lemmas.Bool.{cond_both, and_from, cond-false}
+use Rattle.std.proofs.lemmas.Bool.{and_from, cond-false}
 use Rattle.std.proofs.lemmas.Bool.Decides.{nat_tests}
 use Rattle.flash.specs.Geometry.{block_pages, page_words, blank_word}
 use Rattle.flash.specs.Meaning.{Meaning, word_at}
@@ -14,7 +13,7 @@ use Rattle.onenand_registers.specs.declared.registers.Operands.{Operands}
 use Rattle.onenand_registers.specs.declared.registers.Registers.{Registers}
 use Rattle.onenand_registers.specs.Registers.{with_protection, command_begun}
 use Rattle.onenand_registers.specs.Addresses.{place_of}
-use Rattle.onenand_transfer.specs.Transfers.{page_of, words, page_word, buffer_word}
+use Rattle.onenand_transfer.specs.Transfers.{page_of, page_word}
 use Rattle.onenand_rules.specs.declared.calls.Call.{Call}
 use Rattle.onenand_rules.specs.declared.calls.Call.TheVariants.{Read, Write, Tick, Warm, Cold}
 use Rattle.onenand_rules.specs.declared.commands.Command.{Command as Cmd}
@@ -32,7 +31,7 @@ use Rattle.onenand_rules.specs.Checks.{intended, planned}
 use Rattle.onenand_rules.specs.State.{State, state_for, core_with}
 use Rattle.onenand_rules.specs.Calls.{Reply, done, tick}
 use Rattle.onenand_rules.specs.Writes.{pending, accepted, commanded, stored}
-use Rattle.onenand_rules.specs.Ticks.{data_word, blank, succeeds, data_after, locks_after, protection_after, array_after, acted, closed, ticked}
+use Rattle.onenand_rules.specs.Ticks.{blank, succeeds, data_after, locks_after, protection_after, array_after, acted, closed, ticked}
 use Rattle.onenand_rules.specs.Resets.{boot_words, fresh_core, powered_up}
 use Rattle.onenand_rules.specs.Steps.{step, after, replies}
 use Rattle.onenand_laws.specs.Promise.{is_load, Apart, starts_reading, Looks, Blind}
@@ -61,7 +60,7 @@ module _ (b : ℕ) where
   UnseenBy (Copies f t) = f.block ≡ b → ⊥
   UnseenBy (Erases x) = Unit {0}
   UnseenBy (Verifies x) = x ≡ b → ⊥
-  UnseenBy (Protects l a z) = Unit {0}
+  UnseenBy (Protects p) = Unit {0}
   UnseenBy (Resets r) = Unit {0}
 
   abbrev Unseen : Running → Type 0
@@ -76,27 +75,13 @@ module _ (b : ℕ) where
   Overlooks (ProgramWord t i) = Unit {0}
   Overlooks (EraseBlock x) = Unit {0}
   Overlooks (VerifyPage x p) = x ≡ b → ⊥
-  Overlooks (SetLocks l a z) = Unit {0}
+  Overlooks (SetLocks p) = Unit {0}
 
   overlooks : (p : Plan) (k : ℕ) → UnseenBy p → Overlooks (action_of p k)
-  overlooks (Fails f d) k u = tt
-  overlooks (Loads t) k u = u
-  overlooks (Programs t) k u = tt
-  overlooks (Copies f t) k u = cond_both (ltb k (words f)) _ _ Overlooks (λ _. u) (λ _. tt)
-  overlooks (Erases x) k u = cond_both (ltb k 63) _ _ Overlooks (λ _. tt) (λ _. tt)
-  overlooks (Verifies x) k u = u
-  overlooks (Protects l a z) k u = tt
-  overlooks (Resets r) k u = tt
+  overlooks p k h = grind arith
 
   unseen_intended : (o : Operands) (q : Cmd) → (is_reading q ≡ true → o.block ≡ b → ⊥) → UnseenBy (intended o q)
-  unseen_intended o (Load p) h = h refl
-  unseen_intended o (Program p) h = tt
-  unseen_intended o CopyBack h = h refl
-  unseen_intended o Erase h = tt
-  unseen_intended o Verify h = h refl
-  unseen_intended o (Protect l) h = tt
-  unseen_intended o (Reset r) h = tt
-  unseen_intended o Unknown h = tt
+  unseen_intended o q h = grind arith
 
   unseen_plan : (t : ℕ → Lock) (o : Operands) (n : ℕ) (q : Cmd) → (is_reading q ≡ true → o.block ≡ b → ⊥) → UnseenBy (planned t o n q)
   unseen_plan t o n q h = plan_ways t o n q UnseenBy (λ _. tt) (λ _. unseen_intended o q h)
@@ -129,8 +114,7 @@ module _ (b : ℕ) where
 
     blank_same : (x p k : ℕ) → (x ≡ b → ⊥) → blank m x p k ≡ blank m' x p k
     unfolding blank
-    blank_same x p zero n = refl
-    blank_same x p (suc k) n = λ i. eqb (word_same x p k n i) blank_word && blank_same x p k n i
+    blank_same x p k h = grind arith
 
     succeeds_same : (a : Action) → Overlooks a → succeeds m a ≡ succeeds m' a
     succeeds_same Fail u = refl
@@ -139,30 +123,13 @@ module _ (b : ℕ) where
     succeeds_same (ProgramWord t j) u = λ i. (ltb t.block (e.count i) && (ltb (page_of t.page) block_pages && ltb (page_word t.part t.page j) page_words)) && not (e.dead_page i t.block (page_of t.page))
     succeeds_same (EraseBlock x) u = λ i. ltb x (e.count i) && not (e.dead_block i x)
     succeeds_same (VerifyPage x p) u = blank_same x p page_words u
-    succeeds_same (SetLocks l a z) u = refl
+    succeeds_same (SetLocks p) u = refl
 
     data_same : (a : Action) → Overlooks a → data_after c.dataram m a ≡ data_after c.dataram m' a
-    data_same Fail u = refl
-    data_same Wait u = refl
-    data_same (LoadWord t i) u = ap (set c.dataram (buffer_word t.part t.buffer i)) (word_same t.block (page_of t.page) (page_word t.part t.page i) u)
-    data_same (ProgramWord t i) u = refl
-    data_same (EraseBlock x) u = refl
-    data_same (VerifyPage x p) u = refl
-    data_same (SetLocks l a z) u = refl
+    data_same a h = grind arith
 
     apart_after : (a : Action) → Apart b (array_after c.dataram m a) (array_after c.dataram m' a)
-    apart_after Fail = e
-    apart_after Wait = e
-    apart_after (LoadWord t i) = e
-    apart_after (ProgramWord t i) = record {
-      count = e.count;
-      dead_page = e.dead_page;
-      dead_block = e.dead_block;
-      word = λ x p w n. ap (λ y. cond (eqb x t.block && (eqb p (page_of t.page) && eqb w (page_word t.part t.page i))) (bit_and y (data_word c.dataram t i)) y) (e.word x p w n);
-    }
-    apart_after (EraseBlock v) = record { count = e.count; dead_page = e.dead_page; dead_block = e.dead_block; word = λ x p w n. ap (λ y. cond (eqb x v) blank_word y) (e.word x p w n) }
-    apart_after (VerifyPage x p) = e
-    apart_after (SetLocks l a z) = e
+    apart_after a = grind arith
 
     acted_alike : (a : Action) (r : ℕ → Registers) (u : Running) (q : Reply) → Overlooks a → Unseen u → Alike (acted here a (r m.count) u, q) (acted there a (r m'.count) u, q)
     acted_alike a r u q v v' = record {

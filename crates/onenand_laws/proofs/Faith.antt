@@ -1,5 +1,5 @@
 -- The promise at one moment: each part of it follows from the invariant.
-use Rattle.std.proofs.Common.{◌≡◌, ℕ, zero, suc, ◌+◌, ◌-◌, ◌<◌, ◌≤◌, Bool, true, false, cond, not, ◌||◌, eqb, ltb, ◌⊎◌, List, [], ◌∷◌, length, get_or, replicate, sym, refl, ap, ◌∙◌, subst, inl, inr, ⊎_elim, arith}
+use Rattle.std.proofs.Common.{◌≡◌, ℕ, zero, suc, ◌+◌, ◌-◌, ◌<◌, ◌≤◌, Bool, true, false, cond, not, ◌||◌, eqb, ltb, ◌⊎◌, List, [], ◌∷◌, length, get_or, replicate, sym, refl, ap, ◌∙◌, subst, inl, inr, ⊎_elim, arith, rules}
 use lib.Bits.{bit_and}
 use Rattle.std.proofs.lemmas.Bool.{cond_both, eqb-true, ltb-true, ltb-false, false≢true, true≢false, ne_eqb, eq-eqb, cases_eq, cond-true, cond-false, or_cases}
 use Rattle.std.proofs.lemmas.Bool.Decides.{nat_tests}
@@ -7,7 +7,6 @@ use Rattle.flash.specs.Meaning.{Meaning}
 use Rattle.onenand_protection.specs.declared.Lock.TheVariants.{Tight}
 use Rattle.onenand_protection.specs.Protection.{is_unlocked, lock_at}
 use Rattle.onenand_registers.specs.declared.address.Place.{Place}
-use Rattle.onenand_registers.specs.declared.address.Place.TheVariants.{Boot, Data, Constant, Device, Version, Operand, Command, Config, Status, Interrupt, Protection, Unassigned}
 use Rattle.onenand_registers.specs.declared.registers.Registers.{Registers}
 use Rattle.onenand_registers.specs.Addresses.{place_of, address_of}
 use Rattle.onenand_transfer.specs.declared.Part.TheVariants.{Whole}
@@ -18,9 +17,7 @@ use Rattle.onenand_rules.specs.declared.calls.Call.TheVariants.{Read, Write, Tic
 use Rattle.onenand_rules.specs.declared.commands.Command.{Command as Cmd}
 use Rattle.onenand_rules.specs.declared.commands.Command.TheVariants.{Load, Program, CopyBack, Erase, Verify, Protect, Reset, Unknown}
 use Rattle.onenand_rules.specs.declared.commands.Kind.{Kind}
-use Rattle.onenand_rules.specs.declared.commands.Kind.TheVariants.{Loading, Programming, Erasing, Verifying, Other, Resetting}
 use Rattle.onenand_rules.specs.declared.commands.Fault.{Fault}
-use Rattle.onenand_rules.specs.declared.commands.Fault.TheVariants.{Plain, Barred}
 use Rattle.onenand_rules.specs.declared.plans.Plan.{Plan}
 use Rattle.onenand_rules.specs.declared.plans.Plan.TheVariants.{Fails, Loads, Programs, Copies, Erases, Verifies, Protects, Resets}
 use Rattle.onenand_rules.specs.declared.plans.Running.{Running}
@@ -33,7 +30,7 @@ use Rattle.onenand_rules.specs.Checks.{transfer_of, copy_target, intended, plann
 use Rattle.onenand_rules.specs.State.{State}
 use Rattle.onenand_rules.specs.Calls.{Reply, word, done, tick, refused}
 use Rattle.onenand_rules.specs.Reads.{shown}
-use Rattle.onenand_rules.specs.Writes.{pending, plan_for, stored}
+use Rattle.onenand_rules.specs.Writes.{plan_for, stored}
 use Rattle.onenand_rules.specs.Ticks.{succeeds, array_after, registers_after, acted, closed, ticked}
 use Rattle.onenand_rules.specs.Steps.{step}
 use Rattle.onenand_laws.specs.Observer.{word_in, peek, Underway, none, started, longer, underway_after, Moment, next, reaches, drops}
@@ -49,7 +46,7 @@ ticks_few (Programs t) = let h = (size_some t.part t.buffer).1 in omega arith
 ticks_few (Copies f t) = let h = (size_some f.part f.buffer).1 in let k = (size_some t.part t.buffer).1 in omega arith
 ticks_few (Erases b) = omega arith
 ticks_few (Verifies b) = omega arith
-ticks_few (Protects l a z) = omega arith
+ticks_few (Protects p) = omega arith
 ticks_few (Resets r) = omega arith
 
 held : (t : Moment) → Sound t → (from : State) (c k : ℕ) → t.underway ≡ started from c k → Held from c k t.chip
@@ -179,14 +176,7 @@ module _ (from : State) (k : ℕ) (d : List ℕ) (m : Meaning) where
   Harmless q = array_after d m (action_of (planned (lock_at from.core.locks) from.core.registers.operands from.array.count q) k) ≡ m
 
   action_harmless : (q : Cmd) → changes q ≡ false → Harmless q
-  action_harmless (Load x) e = plan_from from (Load x) (λ p. array_after d m (action_of p k) ≡ m) (λ f x. refl) refl
-  action_harmless (Program x) e = absurd (true≢false e)
-  action_harmless CopyBack e = absurd (true≢false e)
-  action_harmless Erase e = absurd (true≢false e)
-  action_harmless Verify e = plan_from from Verify (λ p. array_after d m (action_of p k) ≡ m) (λ f x. refl) refl
-  action_harmless (Protect l) e = refl
-  action_harmless (Reset r) e = refl
-  action_harmless Unknown e = refl
+  action_harmless q h = grind arith
 
 -- no call but a tick ends a command
 abbrev is_end : Reply → Bool
@@ -200,34 +190,11 @@ not_end : (r : Reply) → is_end r ≡ false → r ≡ tick 0 → ⊥
 not_end r h e = true≢false (ap is_end (sym e) ∙ h)
 
 read_ends_none : (c : Core) (p : Place) → is_end (shown c p) ≡ false
-read_ends_none c (Boot x) = refl
-read_ends_none c (Data x) = cond_both (taken c.running x) _ _ (λ r. is_end r ≡ false) (λ _. refl) (λ _. refl)
-read_ends_none c (Constant w) = refl
-read_ends_none c Device = refl
-read_ends_none c Version = refl
-read_ends_none c (Operand o) = refl
-read_ends_none c Command = refl
-read_ends_none c Config = refl
-read_ends_none c Status = refl
-read_ends_none c Interrupt = refl
-read_ends_none c Protection = refl
-read_ends_none c Unassigned = refl
+read_ends_none c p = grind arith
 
 -- what holds of a refused write and of one that is done holds of any write
 by_write : (s : State) (w : ℕ) (P : State × Reply → Type 0) → ((n : ℕ) → P (s, refused n)) → ((s' : State) → s'.array ≡ s.array → P (s', done)) → (p : Place) → P (stored s w p)
-by_write s w P f g (Boot x) = f 8
-by_write s w P f g (Data x) = cond_both (taken s.core.running x) _ _ P (λ _. f 7) (λ _. g _ refl)
-by_write s w P f g (Constant v) = f 8
-by_write s w P f g Device = f 8
-by_write s w P f g Version = f 8
-by_write s w P f g (Operand o) = g _ refl
-by_write s w P f g Command = cond_both (busy s.core.running (command_of w)) _ _ P (λ _. f 9)
-    (λ _. cond_both (pending s.core (command_of w)) _ _ P (λ _. f 10) (λ _. g _ refl))
-by_write s w P f g Config = g _ refl
-by_write s w P f g Status = f 8
-by_write s w P f g Interrupt = g _ refl
-by_write s w P f g Protection = f 8
-by_write s w P f g Unassigned = f 6
+by_write s w P h e p = grind arith
 
 write_ends_none : (s : State) (w : ℕ) (p : Place) → is_end (stored s w p).1 ≡ false
 write_ends_none s w = by_write s w (λ y. is_end y.1 ≡ false) (λ n. refl) (λ s' e. refl)
@@ -236,18 +203,7 @@ write_array : (s : State) (w : ℕ) (p : Place) → (stored s w p).0.array ≡ s
 write_array s w = by_write s w (λ y. y.0.array ≡ s.array) (λ n. refl) (λ s' e. e)
 
 error_not_clear : (f : Fault) (k : Kind) → bit_and (error_status f k) 0x0400 ≡ 0 → ⊥
-error_not_clear Plain Loading h = omega arith
-error_not_clear Plain Programming h = omega arith
-error_not_clear Plain Erasing h = omega arith
-error_not_clear Plain Verifying h = omega arith
-error_not_clear Plain Other h = omega arith
-error_not_clear Plain Resetting h = omega arith
-error_not_clear Barred Loading h = omega arith
-error_not_clear Barred Programming h = omega arith
-error_not_clear Barred Erasing h = omega arith
-error_not_clear Barred Verifying h = omega arith
-error_not_clear Barred Other h = omega arith
-error_not_clear Barred Resetting h = omega arith
+error_not_clear f k h = grind arith
 
 module _ (s : State) (from : State) (c k : ℕ) (h : Held from c k s) where
   -- a call that ends a command with Error clear is a tick that did its last action
@@ -290,18 +246,10 @@ module _ (s : State) (from : State) (c k : ℕ) (h : Held from c k s) where
 
 -- a call that drops a command leaves the array
 drop_array : (s : State) (c : Call) → drops c (step s c).1 ≡ true → (step s c).0.array ≡ s.array
-drop_array s (Read a) h = refl
-drop_array s (Write a w) h = write_array s w (place_of a)
-drop_array s Tick h = absurd (false≢true h)
-drop_array s Warm h = refl
-drop_array s Cold h = refl
+drop_array s c h = search rules
 
 no_tick_array : (s : State) (c : Call) → (c ≡ Tick → ⊥) → (step s c).0.array ≡ s.array
-no_tick_array s (Read a) n = refl
-no_tick_array s (Write a w) n = write_array s w (place_of a)
-no_tick_array s Tick n = absurd (n refl)
-no_tick_array s Warm n = refl
-no_tick_array s Cold n = refl
+no_tick_array s c h = search rules
 
 harmless_array : (s : State) (from : State) (c k : ℕ) → Held from c k s → is_changing c ≡ false → (call : Call) → (step s call).0.array ≡ s.array
 harmless_array s from c k h n (Read a) = refl
@@ -320,24 +268,8 @@ harmless_array s from c k h n Cold = refl
 abbrev Unchanged : State → ℕ → State × Reply → Type 0
 Unchanged s n y = y.1 ≡ refused n → y.0 ≡ s
 
-done_not_refused : (n : ℕ) → done ≡ refused n → ⊥
-done_not_refused n e = let z : ◌≡◌ {A = ℕ} 0 1 = cc in omega arith
-
-tick_not_refused : (k n : ℕ) → tick k ≡ refused n → ⊥
-tick_not_refused k n e = let z : ◌≡◌ {A = ℕ} 0 1 = cc in omega arith
-
-refused_tick : (s : State) (n : ℕ) (r : Running) → Unchanged s n (ticked s r)
-refused_tick s n Idle = λ e. refl
-refused_tick s n (Runs p k) = cond_both (succeeds s.array (action_of p k)) _ _ (Unchanged s n)
-    (λ _. cond_both (ltb (k + 1) (ticks_of p)) _ _ (Unchanged s n) (λ _ e. absurd (tick_not_refused 1 n e)) (λ _ e. absurd (tick_not_refused 0 n e)))
-    (λ _ e. absurd (tick_not_refused 0 n e))
-
 refused_call : (s : State) (n : ℕ) (c : Call) → Unchanged s n (step s c)
-refused_call s n (Read a) = λ e. refl
-refused_call s n (Write a w) = by_write s w (Unchanged s n) (λ i e. refl) (λ s' q e. absurd (done_not_refused n e)) (place_of a)
-refused_call s n Tick = refused_tick s n s.core.running
-refused_call s n Warm = λ e. absurd (done_not_refused n e)
-refused_call s n Cold = λ e. absurd (done_not_refused n e)
+refused_call s n c = search rules
 
 -- any other word is no reset's
 no_reset : (w : ℕ) → (w ≡ 0x00F0 → ⊥) → (w ≡ 0x00F3 → ⊥) → is_reset (command_of w) ≡ false
@@ -397,26 +329,8 @@ one_call : (t : Moment) → Sound t → (c : Call) (b p w : ℕ) → t.lock b �
     ((next t c).lock b ≡ Tight) × ((next t c).chip.array.word b p w ≡ t.chip.array.word b p w)
 one_call t h c b p w e f g = ⊎_elim (λ x. (x, stays t h c b p w x)) (⊎_elim (λ x. absurd (f x)) (λ x. absurd (g x))) (stays_tight t c b e)
 
-abbrev is_warm : Call → Bool
-is_warm (Read a) = false
-is_warm (Write a w) = false
-is_warm Tick = false
-is_warm Warm = true
-is_warm Cold = false
-
-abbrev is_cold : Call → Bool
-is_cold (Read a) = false
-is_cold (Write a w) = false
-is_cold Tick = false
-is_cold Warm = false
-is_cold Cold = true
-
 calm_head : (c : Call) (cs : List Call) → Calm (c ∷ cs) → (c ≡ Warm → ⊥) × (c ≡ Cold → ⊥) × Calm cs
-calm_head (Read a) cs h = ((λ e. false≢true (ap is_warm e)), (λ e. false≢true (ap is_cold e)), h)
-calm_head (Write a w) cs h = ((λ e. false≢true (ap is_warm e)), (λ e. false≢true (ap is_cold e)), h)
-calm_head Tick cs h = ((λ e. false≢true (ap is_warm e)), (λ e. false≢true (ap is_cold e)), h)
-calm_head Warm cs h = absurd h
-calm_head Cold cs h = absurd h
+calm_head c cs h = grind arith
 
 pub still : (t : Moment) → Sound t → Still t
 unfolding reaches

@@ -9,12 +9,10 @@ use Rattle.onenand_registers.specs.declared.address.Place.TheVariants.{Boot, Dat
 use Rattle.onenand_registers.specs.Addresses.{place_of}
 use Rattle.onenand_registers.specs.Registers.{with_operands, operand_written, config_written, interrupt_written}
 use Rattle.onenand_transfer.specs.declared.Part.{Part}
-use Rattle.onenand_transfer.specs.declared.Part.TheVariants.{Whole, Spare}
 use Rattle.onenand_transfer.specs.Transfers.{size}
 use Rattle.onenand_rules.specs.declared.calls.Call.{Call}
 use Rattle.onenand_rules.specs.declared.calls.Call.TheVariants.{Read, Write, Tick, Warm, Cold}
 use Rattle.onenand_rules.specs.declared.plans.Action.{Action}
-use Rattle.onenand_rules.specs.declared.plans.Action.TheVariants.{Fail, Wait, LoadWord, ProgramWord, EraseBlock, VerifyPage, SetLocks}
 use Rattle.onenand_rules.specs.declared.plans.Plan.{Plan}
 use Rattle.onenand_rules.specs.declared.plans.Plan.TheVariants.{Fails, Loads, Programs, Copies, Erases, Verifies, Protects, Resets}
 use Rattle.onenand_rules.specs.declared.plans.Running.{Running}
@@ -27,6 +25,7 @@ use Rattle.onenand_rules.specs.Writes.{pending, plan_for, accepted, commanded, s
 use Rattle.onenand_rules.specs.Ticks.{succeeds, array_after, registers_after, acted, closed, failed, ticked}
 use Rattle.onenand_rules.specs.Steps.{step}
 use Rattle.onenand_laws.specs.Frames.{SameDevice, SameSizes, LeftByWrite, Within, Frames}
+use Rattle.std.proofs.lemmas.Bool.Decides.{nat_tests}
 
 -- a state with other registers, RAM, block states, running command and array is of the same device
 same_device : (s : State) (r : Registers) (d : List ℕ) (t : List Lock) (u : Running) (m : Meaning) → SameDevice s (state_with s r d t u m)
@@ -58,8 +57,7 @@ changed s r d u e h = record {
 -- a command takes a tick at least
 some_words : (p : Part) (f : ℕ) → 0 < size p f
 unfolding size
-some_words Whole f = omega arith
-some_words Spare f = omega arith
+some_words p f = grind arith
 
 some_ticks : (p : Plan) → 0 < ticks_of p
 some_ticks (Fails f k) = omega arith
@@ -68,7 +66,7 @@ some_ticks (Programs t) = some_words t.part t.buffer
 some_ticks (Copies from to) = let h = some_words from.part from.buffer in omega arith
 some_ticks (Erases b) = omega arith
 some_ticks (Verifies b) = omega arith
-some_ticks (Protects l a z) = omega arith
+some_ticks (Protects p) = omega arith
 some_ticks (Resets r) = omega arith
 
 commands : (s : State) (w : ℕ) → Written s (commanded s w).0
@@ -108,13 +106,7 @@ moved : (s : State) (r : Registers) (d : List ℕ) (t : List Lock) (u : Running)
 moved s r d t u m z h = record { device = same_device s r d t u m; sizes = z; within = λ _. h; bootram = refl }
 
 sizes_after : (d : List ℕ) (m : Meaning) (a : Action) → SameSizes m (array_after d m a)
-sizes_after d m Fail = same_sizes m
-sizes_after d m Wait = same_sizes m
-sizes_after d m (LoadWord t i) = same_sizes m
-sizes_after d m (ProgramWord t i) = record { count = refl; dead_page = refl; dead_block = refl }
-sizes_after d m (EraseBlock b) = record { count = refl; dead_page = refl; dead_block = refl }
-sizes_after d m (VerifyPage b p) = same_sizes m
-sizes_after d m (SetLocks l a z) = same_sizes m
+sizes_after d m a = grind arith
 
 runs_on : (s : State) (p : Plan) (k : ℕ) → Ticked s (ticked s (Runs p k)).0
 runs_on s p k =
@@ -130,8 +122,7 @@ runs_on s p k =
     (λ _. moved s _ _ _ Idle _ (same_sizes s.array) tt)
 
 ticks : (s : State) (u : Running) → Ticked s (ticked s u).0
-ticks s Idle = record { device = record { device = refl; version = refl }; sizes = same_sizes s.array; within = λ h. h; bootram = refl }
-ticks s (Runs p k) = runs_on s p k
+ticks s u = grind (arith, nat_tests)
 
 pub frames : (s : State) → Frames s
 frames s = record {

@@ -1,38 +1,35 @@
 -- The invariant of a run: what holds at each of its moments, and that each call keeps it.
-use Rattle.std.proofs.Common.{◌≡◌, ℕ, ◌+◌, ◌-◌, ◌<◌, ◌≤◌, Bool, true, false, cond, not, ◌&&◌, ◌||◌, eqb, ltb, List, [], ◌∷◌, length, get_or, set, replicate, Ok, Err, Result, sym, refl, ap, ◌∙◌, subst, ⊎_elim, arith}
+use Rattle.std.proofs.Common.{◌≡◌, ℕ, ◌+◌, ◌-◌, ◌<◌, ◌≤◌, Bool, true, false, cond, ◌&&◌, eqb, ltb, List, [], ◌∷◌, length, get_or, set, replicate, Ok, Err, Result, sym, refl, ap, ◌∙◌, subst, ⊎_elim, arith, rules}
 use mathlib.Core.Path.{fun_ext}
 use lib.Bits.{bit_and}
-use Rattle.std.proofs.lemmas.Bool.{cond_both, cond-true, cases_eq, cases_lt, eqb-true, eq-eqb, ltb-true, ltb-false, both_ways, false≢true, true≢false, and_parts, and_from}
+use Rattle.std.proofs.lemmas.Bool.{cond_both, cond-true, cases_eq, cases_lt, eqb-true, eq-eqb, ltb-true, ltb-false, both_ways, false≢true, and_parts, and_from}
 use Rattle.std.proofs.lemmas.Bool.Decides.{nat_tests}
 use Rattle.std.proofs.lemmas.List.{length-set, get_or-set_same, get_or-set_other, length-replicate, get_or_past, get_or-replicate}
 use Rattle.flash.specs.Geometry.{max_blocks, block_pages, page_words, blank_word}
 use Rattle.flash.specs.Meaning.{Meaning, programmed}
 use Rattle.onenand_protection.specs.declared.Lock.{Lock}
-use Rattle.onenand_protection.specs.declared.Lock.TheVariants.{Locked, Unlocked, Tight}
+use Rattle.onenand_protection.specs.declared.Lock.TheVariants.{Locked, Unlocked}
 use Rattle.onenand_protection.specs.Protection.{is_unlocked, lock_at, protected}
 use Rattle.onenand_registers.specs.declared.address.Place.{Place}
 use Rattle.onenand_registers.specs.declared.address.Place.TheVariants.{Boot, Data, Constant, Device, Version, Operand, Command, Config, Status, Interrupt, Protection, Unassigned}
 use Rattle.onenand_registers.specs.declared.registers.Operands.{Operands}
 use Rattle.onenand_registers.specs.declared.registers.Registers.{Registers}
 use Rattle.onenand_registers.specs.Addresses.{place_of}
-use Rattle.onenand_transfer.specs.declared.Part.TheVariants.{Whole}
 use Rattle.onenand_transfer.specs.declared.Transfer.{Transfer}
 use Rattle.onenand_transfer.specs.Transfers.{page_of, words, page_word, buffer_word, chosen}
 use Rattle.onenand_rules.specs.declared.calls.Call.{Call}
 use Rattle.onenand_rules.specs.declared.calls.Call.TheVariants.{Read, Write, Tick, Warm, Cold}
 use Rattle.onenand_rules.specs.declared.commands.Command.{Command as Cmd}
-use Rattle.onenand_rules.specs.declared.commands.Command.TheVariants.{Load, Program, CopyBack, Erase, Verify, Protect, Reset, Unknown}
 use Rattle.onenand_rules.specs.declared.commands.Fault.{Fault}
-use Rattle.onenand_rules.specs.declared.commands.Fault.TheVariants.{Plain, Barred}
 use Rattle.onenand_rules.specs.declared.plans.Plan.{Plan}
 use Rattle.onenand_rules.specs.declared.plans.Plan.TheVariants.{Fails, Loads, Programs, Copies, Erases, Verifies, Protects, Resets}
 use Rattle.onenand_rules.specs.declared.plans.Running.{Running}
 use Rattle.onenand_rules.specs.declared.plans.Running.TheVariants.{Idle, Runs}
 use Rattle.onenand_rules.specs.declared.plans.Action.{Action}
 use Rattle.onenand_rules.specs.declared.plans.Action.TheVariants.{Fail, Wait, LoadWord, ProgramWord, EraseBlock, VerifyPage, SetLocks}
-use Rattle.onenand_rules.specs.Commands.{command_of, is_reset, kind_of}
-use Rattle.onenand_rules.specs.Plans.{ticks_of, action_of, taken_by, taken, holds_off, busy}
-use Rattle.onenand_rules.specs.Checks.{is_known, blocks_there, buffer_fit, target_open, checked, transfer_of, intended, plan_by, planned}
+use Rattle.onenand_rules.specs.Commands.{command_of, kind_of}
+use Rattle.onenand_rules.specs.Plans.{ticks_of, action_of, taken_by, taken, busy}
+use Rattle.onenand_rules.specs.Checks.{checked, intended, plan_by, planned}
 use Rattle.onenand_rules.specs.State.{State, state_with, with_registers}
 use Rattle.onenand_rules.specs.Calls.{Reply, done, tick, refused}
 use Rattle.onenand_rules.specs.Reads.{shown}
@@ -42,7 +39,7 @@ use Rattle.onenand_rules.specs.Resets.{all_locked, powered_up}
 use Rattle.onenand_rules.specs.Steps.{step}
 use Rattle.onenand_laws.specs.Observer.{Underway, none, started, underway_after, locks_ended, locks_by, locks_after_call, Moment, begins, after_call, next, reaches}
 use Rattle.onenand_laws.proofs.Words.{page_word_same, buffer_word_same, buffer_word_below, buffer_word_chosen, size_some}
-use Rattle.onenand_laws.proofs.Tight.{table, table_length}
+use Rattle.onenand_laws.proofs.Tight.{table}
 
 -- the first k words v of a transfer are ANDed into an array that was old, and no other word differs
 pub record Anded (old : Meaning) (t : Transfer) (v : ℕ → ℕ) (k : ℕ) (m : Meaning) : Type 0 where
@@ -79,7 +76,7 @@ Progress (Programs t) from k s = ProgramsSoFar from t k s
 Progress (Copies f t) from k s = CopiesSoFar from f t k s
 Progress (Erases b) from k s = (lock_at s.core.locks b ≡ Unlocked) × ((x p w : ℕ) → s.array.word x p w ≡ from.array.word x p w)
 Progress (Verifies b) from k s = Unit {0}
-Progress (Protects l a z) from k s = Unit {0}
+Progress (Protects p) from k s = Unit {0}
 Progress (Resets r) from k s = Unit {0}
 
 -- the command of a code word that was accepted in a state runs, and has had k ticks
@@ -106,8 +103,7 @@ pub record Sound (t : Moment) : Type 0 where
   pub under : Under t.underway t.chip
 
 kept_on : (q : Bool) (x y : ℕ) → (q ≡ false → x ≡ y) → x ≡ cond q x y
-kept_on true x y h = refl
-kept_on false x y h = h refl
+kept_on q x y h = grind arith
 
 -- no word differs of a block that is not unlocked now
 abbrev Keeps : State → State → Type 0
@@ -133,21 +129,6 @@ plan_ways t o n q P f g = go (checked t o n q) g
     go (Ok u) g = g refl
     go (Err e) g = f e
 
-abbrev is_ok : Result (Unit {0}) Fault → Bool
-is_ok (Ok u) = true
-is_ok (Err f) = false
-
--- a command that passes its checks passes the last one
-passed : (a b c d : Bool) → is_ok (cond a (cond b (cond c (cond d (Ok tt) (Err Barred)) (Err Barred)) (Err Plain)) (Err Plain)) ≡ true → d ≡ true
-passed true true true true e = refl
-passed true true true false e = absurd (false≢true e)
-passed true true false d e = absurd (false≢true e)
-passed true false c d e = absurd (false≢true e)
-passed false b c d e = absurd (false≢true e)
-
-checked_open : (t : ℕ → Lock) (o : Operands) (n : ℕ) (q : Cmd) → checked t o n q ≡ Ok tt → target_open t o q ≡ true
-checked_open t o n q e = passed (is_known q) (blocks_there o n q) (buffer_fit o q) (target_open t o q) (ap is_ok e)
-
 -- what a running command has done stays so while the host writes elsewhere
 progress_kept : (p : Plan) (from s : State) (k : ℕ) (r : Registers) (d : List ℕ) → ((x : ℕ) → taken_by p x ≡ true → get_or d x 0 ≡ get_or s.core.dataram x 0) →
     k < ticks_of p → Progress p from k s → Progress p from k (state_with s r d s.core.locks s.core.running s.array)
@@ -164,7 +145,7 @@ progress_kept (Copies f t) from s k r d e l h = record {
 }
 progress_kept (Erases b) from s k r d e l h = h
 progress_kept (Verifies b) from s k r d e l h = tt
-progress_kept (Protects l a z) from s k r d e l' h = tt
+progress_kept (Protects p) from s k r d e l' h = tt
 progress_kept (Resets x) from s k r d e l h = tt
 
 under_kept : (u : Underway) (s : State) (r : Registers) (d : List ℕ) → ((x : ℕ) → taken s.core.running x ≡ true → get_or d x 0 ≡ get_or s.core.dataram x 0) →
@@ -184,21 +165,8 @@ ticks_some (Programs t) = (size_some t.part t.buffer).0
 ticks_some (Copies f t) = let h = (size_some f.part f.buffer).0 in omega arith
 ticks_some (Erases b) = omega arith
 ticks_some (Verifies b) = omega arith
-ticks_some (Protects l a z) = omega arith
+ticks_some (Protects p) = omega arith
 ticks_some (Resets r) = omega arith
-
-unlocked_is : (l : Lock) → is_unlocked l ≡ true → l ≡ Unlocked
-unlocked_is Locked h = absurd (false≢true h)
-unlocked_is Unlocked h = refl
-unlocked_is Tight h = absurd (false≢true h)
-
-rests : (r : Running) (c : Cmd) → is_reset c ≡ false → busy r c ≡ false → r ≡ Idle
-rests Idle c n h = refl
-rests (Runs p k) c n h = absurd (true≢false (sym (ap (λ q. not q || holds_off p) n) ∙ h))
-
--- at its start nothing is ANDed in
-anded_none : (m : Meaning) (t : Transfer) (v : ℕ → ℕ) (k : ℕ) → k ≡ 0 → Anded m t v k m
-anded_none m t v k e = record { these = λ i l. absurd (omega arith); others = λ b p w n. refl }
 
 module _ (s : State) (r : Registers) (u : Running) where
   abbrev begun : State
@@ -207,31 +175,9 @@ module _ (s : State) (r : Registers) (u : Running) where
   abbrev Passes : Cmd → Type 0
   Passes q = checked (lock_at s.core.locks) s.core.registers.operands s.array.count q ≡ Ok tt
 
-  opens : (q : Cmd) → Passes q → target_open (lock_at s.core.locks) s.core.registers.operands q ≡ true
-  opens q f = checked_open (lock_at s.core.locks) s.core.registers.operands s.array.count q f
-
   -- the progress of a plan that has had no tick
   begins_intended : (q : Cmd) → busy s.core.running q ≡ false → Passes q → Progress (intended s.core.registers.operands q) s 0 begun
-  begins_intended (Load x) h f = record { loaded = λ i q. absurd (omega arith) }
-  begins_intended (Program x) h f = record {
-    unlocked = unlocked_is _ (opens (Program x) f);
-    rested = rests s.core.running (Program x) refl h;
-    buffer = λ x q. refl;
-    anded = anded_none s.array _ _ 0 refl;
-  }
-  begins_intended CopyBack h f = record {
-    unlocked = unlocked_is _ (opens CopyBack f);
-    part = refl;
-    buffer = refl;
-    count = refl;
-    loaded = λ i q q'. absurd (omega arith);
-    anded = anded_none s.array _ _ _ (omega arith);
-  }
-  begins_intended Erase h f = (unlocked_is _ (opens Erase f), λ x p w. refl)
-  begins_intended Verify h f = tt
-  begins_intended (Protect l) h f = tt
-  begins_intended (Reset x) h f = tt
-  begins_intended Unknown h f = λ b p w. refl
+  begins_intended q h e = grind arith
 
   begins_plan : (q : Cmd) → busy s.core.running q ≡ false → Progress (planned (lock_at s.core.locks) s.core.registers.operands s.array.count q) s 0 begun
   begins_plan q h = plan_ways (lock_at s.core.locks) s.core.registers.operands s.array.count q (λ p. Progress p s 0 begun) (λ f b p w. refl) (begins_intended q h)
@@ -297,31 +243,13 @@ module _ (t : Moment) (h : Sound t) (a w : ℕ) where
 
 -- a tick, by its action: the sizes stay
 action_length : (n : ℕ) (a : Action) (d : List Lock) → length d ≡ max_blocks → length (locks_after n a d) ≡ max_blocks
-action_length n Fail d e = e
-action_length n Wait d e = e
-action_length n (LoadWord t i) d e = e
-action_length n (ProgramWord t i) d e = e
-action_length n (EraseBlock b) d e = e
-action_length n (VerifyPage b p) d e = e
-action_length n (SetLocks l a z) d e = table_length n l a z d e
+action_length n a d h = grind arith
 
 action_data : (m : Meaning) (a : Action) (d : List ℕ) → length d ≡ 1056 → length (data_after d m a) ≡ 1056
-action_data m Fail d e = e
-action_data m Wait d e = e
-action_data m (LoadWord t i) d e = length-set d _ _ ∙ e
-action_data m (ProgramWord t i) d e = e
-action_data m (EraseBlock b) d e = e
-action_data m (VerifyPage b p) d e = e
-action_data m (SetLocks l a z) d e = e
+action_data m a d h = search rules
 
 action_count : (m : Meaning) (a : Action) (d : List ℕ) → (array_after d m a).count ≡ m.count
-action_count m Fail d = refl
-action_count m Wait d = refl
-action_count m (LoadWord t i) d = refl
-action_count m (ProgramWord t i) d = refl
-action_count m (EraseBlock b) d = refl
-action_count m (VerifyPage b p) d = refl
-action_count m (SetLocks l a z) d = refl
+action_count m a d = grind arith
 
 acted_shape : (s : State) (a : Action) (r : Registers) (u : Running) → Shaped s → Shaped (acted s a r u)
 acted_shape s a r u h = record {
@@ -338,34 +266,14 @@ Open t (LoadWord f i) = Unit {0}
 Open t (ProgramWord f i) = t f.block ≡ Unlocked
 Open t (EraseBlock b) = t b ≡ Unlocked
 Open t (VerifyPage b p) = Unit {0}
-Open t (SetLocks l a z) = Unit {0}
+Open t (SetLocks p) = Unit {0}
 
 plan_open : (p : Plan) (from : State) (k : ℕ) (s : State) → Progress p from k s → Open (lock_at s.core.locks) (action_of p k)
-plan_open (Fails f kd) from k s h = tt
-plan_open (Loads t) from k s h = tt
-plan_open (Programs t) from k s h = h.unlocked
-plan_open (Copies f t) from k s h = cond_both (ltb k (words f)) _ _ (Open (lock_at s.core.locks)) (λ _. tt) (λ _. h.unlocked)
-plan_open (Erases b) from k s h = cond_both (ltb k 63) _ _ (Open (lock_at s.core.locks)) (λ _. tt) (λ _. h.0)
-plan_open (Verifies b) from k s h = tt
-plan_open (Protects l a z) from k s h = tt
-plan_open (Resets x) from k s h = tt
-
-open_block : (l : Lock) → l ≡ Unlocked → is_unlocked l ≡ false → ⊥
-open_block l e f = true≢false (ap is_unlocked (sym e) ∙ f)
+plan_open p from k s h = grind arith
 
 -- so no word differs of a block that is not unlocked
 action_keeps : (a : Action) (d : List Lock) (m : Meaning) (x : List ℕ) (n : ℕ) → Open (lock_at d) a → (b q w : ℕ) → is_unlocked (lock_at (locks_after n a d) b) ≡ false → (array_after x m a).word b q w ≡ m.word b q w
-action_keeps Fail d m x n o b q w e = refl
-action_keeps Wait d m x n o b q w e = refl
-action_keeps (LoadWord t i) d m x n o b q w e = refl
-action_keeps (ProgramWord t i) d m x n o b q w e = cond_both (eqb b t.block && (eqb q (page_of t.page) && eqb w (page_word t.part t.page i))) _ _ (λ y. y ≡ m.word b q w)
-    (λ f. absurd (open_block _ o (ap (λ y. is_unlocked (lock_at d y)) (sym (eqb-true b t.block (and_parts _ _ f).0)) ∙ e)))
-    (λ _. refl)
-action_keeps (EraseBlock v) d m x n o b q w e = cond_both (eqb b v) _ _ (λ y. y ≡ m.word b q w)
-    (λ f. absurd (open_block _ o (ap (λ y. is_unlocked (lock_at d y)) (sym (eqb-true b v f)) ∙ e)))
-    (λ _. refl)
-action_keeps (VerifyPage v p) d m x n o b q w e = refl
-action_keeps (SetLocks l a z) d m x n o b q w e = refl
+action_keeps a d m x n h b q w e = grind arith
 
 -- the block states after an action, by the rules of protection
 abbrev ruled : ℕ → Action → (ℕ → Lock) → ℕ → Lock
@@ -375,7 +283,7 @@ ruled n (LoadWord f i) t = t
 ruled n (ProgramWord f i) t = t
 ruled n (EraseBlock b) t = t
 ruled n (VerifyPage b p) t = t
-ruled n (SetLocks l a z) t = protected n l a z t
+ruled n (SetLocks p) t = protected n p.lock p.first p.last t
 
 action_ruled : (n : ℕ) (a : Action) (d : List Lock) → length d ≡ max_blocks → n ≤ max_blocks → ruled n a (lock_at d) ≡ lock_at (locks_after n a d)
 action_ruled n Fail d e h = refl
@@ -384,38 +292,18 @@ action_ruled n (LoadWord f i) d e h = refl
 action_ruled n (ProgramWord f i) d e h = refl
 action_ruled n (EraseBlock b) d e h = refl
 action_ruled n (VerifyPage b p) d e h = refl
-action_ruled n (SetLocks l a z) d e h = sym (table n l a z d e h)
+action_ruled n (SetLocks p) d e h = sym (table n p.lock p.first p.last d e h)
 
 -- a command's end makes of the block states what its action does
 ended_ruled : (l : ℕ → Lock) (o : Operands) (n n' k : ℕ) (t : ℕ → Lock) (q : Cmd) → locks_ended n q o.first o.last t ≡ ruled n (action_of (planned l o n' q) k) t
-ended_ruled l o n n' k t (Load x) = plan_ways l o n' (Load x) (λ p. t ≡ ruled n (action_of p k) t) (λ _. refl) (λ _. refl)
-ended_ruled l o n n' k t (Program x) = plan_ways l o n' (Program x) (λ p. t ≡ ruled n (action_of p k) t) (λ _. refl) (λ _. refl)
-ended_ruled l o n n' k t CopyBack = plan_ways l o n' CopyBack (λ p. t ≡ ruled n (action_of p k) t) (λ _. refl) (λ _. cond_both (ltb k (words (transfer_of o Whole))) _ _ (λ a. t ≡ ruled n a t) (λ _. refl) (λ _. refl))
-ended_ruled l o n n' k t Erase = plan_ways l o n' Erase (λ p. t ≡ ruled n (action_of p k) t) (λ _. refl) (λ _. cond_both (ltb k 63) _ _ (λ a. t ≡ ruled n a t) (λ _. refl) (λ _. refl))
-ended_ruled l o n n' k t Verify = plan_ways l o n' Verify (λ p. t ≡ ruled n (action_of p k) t) (λ _. refl) (λ _. refl)
-ended_ruled l o n n' k t (Protect x) = refl
-ended_ruled l o n n' k t (Reset x) = refl
-ended_ruled l o n n' k t Unknown = refl
+ended_ruled l o n n' k t q = grind arith
 
 -- a command of more than one tick leaves the block states, and so does a tick that fails
 long_ruled : (n : ℕ) (p : Plan) (t : ℕ → Lock) (k : ℕ) → k + 1 < ticks_of p → t ≡ ruled n (action_of p k) t
-long_ruled n (Fails f kd) t k h = refl
-long_ruled n (Loads r) t k h = refl
-long_ruled n (Programs r) t k h = refl
-long_ruled n (Copies f r) t k h = cond_both (ltb k (words f)) _ _ (λ a. t ≡ ruled n a t) (λ _. refl) (λ _. refl)
-long_ruled n (Erases b) t k h = cond_both (ltb k 63) _ _ (λ a. t ≡ ruled n a t) (λ _. refl) (λ _. refl)
-long_ruled n (Verifies b) t k h = refl
-long_ruled n (Protects l a z) t k h = absurd (omega arith)
-long_ruled n (Resets x) t k h = refl
+long_ruled n p t k h = grind arith
 
 failed_ruled : (n : ℕ) (a : Action) (m : Meaning) (t : ℕ → Lock) → succeeds m a ≡ false → ruled n a t ≡ t
-failed_ruled n Fail m t h = refl
-failed_ruled n Wait m t h = refl
-failed_ruled n (LoadWord f i) m t h = refl
-failed_ruled n (ProgramWord f i) m t h = refl
-failed_ruled n (EraseBlock b) m t h = refl
-failed_ruled n (VerifyPage b p) m t h = refl
-failed_ruled n (SetLocks l a z) m t h = absurd (true≢false h)
+failed_ruled n a m t h = grind arith
 
 -- one word more is ANDed in
 eqb_self : (a : ℕ) → eqb a a ≡ true
@@ -515,18 +403,11 @@ Onward (Programs t) k = Unit {0}
 Onward (Copies f t) k = Unit {0}
 Onward (Erases b) k = k + 1 < 64
 Onward (Verifies b) k = Unit {0}
-Onward (Protects l a z) k = Unit {0}
+Onward (Protects p) k = Unit {0}
 Onward (Resets r) k = Unit {0}
 
 onward : (p : Plan) (k : ℕ) → k + 1 < ticks_of p → Onward p k
-onward (Fails f kd) k h = tt
-onward (Loads t) k h = tt
-onward (Programs t) k h = tt
-onward (Copies f t) k h = tt
-onward (Erases b) k h = h
-onward (Verifies b) k h = tt
-onward (Protects l a z) k h = tt
-onward (Resets x) k h = tt
+onward p k h = grind arith
 
 -- what one tick more has done
 pub progress_on : (p : Plan) (from s : State) (k : ℕ) (r : Registers) (u : Running) → length s.core.dataram ≡ 1056 → k < ticks_of p → Onward p k → succeeds s.array (action_of p k) ≡ true →
@@ -544,7 +425,7 @@ progress_on (Copies f t) from s k r u z i o e h = cond_both (ltb k (words f)) _ 
     (λ q. copy_programs from s f t k r u z h (ltb-false k (words f) q) i)
 progress_on (Erases b) from s k r u z i o e h = cond_both (ltb k 63) _ _ (λ a. Progress (Erases b) from (k + 1) (acted s a r u)) (λ _. h) (λ f. absurd (let g = ltb-false k 63 f in omega arith))
 progress_on (Verifies b) from s k r u z i o e h = tt
-progress_on (Protects l a z) from s k r u y i o e h = tt
+progress_on (Protects p) from s k r u y i o e h = tt
 progress_on (Resets x) from s k r u z i o e h = tt
 
 -- a tick of a command: it goes on, it ends, or it fails

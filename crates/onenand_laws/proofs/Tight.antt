@@ -84,8 +84,7 @@ made_past l a z b t h e = go l (and_right (leb a b) (leb b z) (lt-leb b z h))
     go Tight f = cond-false (in_range a z b) _ _ f ∙ e
 
 by_test : (q : Bool) (P : Bool → Type 0) → (q ≡ true → P true) → (q ≡ false → P false) → P q
-by_test true P f g = f refl
-by_test false P f g = g refl
+by_test q P h e = grind arith
 
 -- the table has a state for each of 256 blocks, and past them every block is locked
 pub table : (n : ℕ) (l : Lock) (a z : ℕ) (d : List Lock) → length d ≡ max_blocks → n ≤ max_blocks → lock_at (table_after n l a z d) ≡ protected n l a z (lock_at d)
@@ -99,6 +98,3 @@ table n l a z d e h = by_test (obeyed n l a z (lock_at d)) (λ q. lock_at (cond 
     ∙ sym (made_past l a z b (lock_at d) (omega arith) (get_or_past d b Locked (omega arith))))
     (cases_lt b 256)))
     (λ _. refl)
-
-pub table_length : (n : ℕ) (l : Lock) (a z : ℕ) (d : List Lock) → length d ≡ max_blocks → length (table_after n l a z d) ≡ max_blocks
-table_length n l a z d e = cond_both (obeyed n l a z (lock_at d)) _ _ (λ x. length x ≡ max_blocks) (λ _. length-map-range_with_len (locks_made l a z (lock_at d)) 0 (length d) ∙ e) (λ _. e)

@@ -6,7 +6,6 @@ use Rattle.onenand_registers.specs.Bits.{bit}
 use Rattle.onenand_registers.specs.Addresses.{place_of, address_of}
 use Rattle.onenand_registers.specs.declared.address.Place.TheVariants.{Data}
 use Rattle.onenand_transfer.specs.declared.Part.{Part}
-use Rattle.onenand_transfer.specs.declared.Part.TheVariants.{Whole, Spare}
 use Rattle.onenand_transfer.specs.Transfers.{size, counted, sector_word, page_sector, buffer_sector, page_word, buffer_word, sector_of, chosen}
 
 -- two words of n sectors that stand at one place are one word of one sector
@@ -20,12 +19,10 @@ module _ (n s s' o o' : ℕ) (l : s < n) (l' : s' < n) (h : o < 264) (h' : o' < 
 -- at most two sectors move
 counted_below : (part : Part) (f i : ℕ) → i < size part f → counted part i < 528
 unfolding size
-counted_below Whole f i h = omega arith
-counted_below Spare f i h = omega arith
+counted_below part f i h = grind arith
 
 counted_same : (part : Part) (i k : ℕ) → counted part i ≡ counted part k → i ≡ k
-counted_same Whole i k e = e
-counted_same Spare i k e = omega arith
+counted_same part i k h = grind arith
 
 -- the second sector is not the first
 turned : (x j k : ℕ) → j < 528 → k < 528 → (x + j / 264) % 2 ≡ (x + k / 264) % 2 → j / 264 ≡ k / 264
@@ -66,14 +63,12 @@ sector_found s o h l = grind (arith, nat_tests)
 -- a word of a second sector moves only where two sectors do
 second : (part : Part) (f i : ℕ) → i < size part f → 264 ≤ counted part i → bit 0 f ≡ 0
 unfolding size
-second Whole f i h l = omega arith
-second Spare f i h l = omega arith
+second part f i h e = grind arith
 
 -- a transfer has a word, and at most 528
 pub size_some : (part : Part) (f : ℕ) → (0 < size part f) × (size part f ≤ 528)
 unfolding size
-size_some Whole f = (omega arith, omega arith)
-size_some Spare f = (omega arith, omega arith)
+size_some part f = grind arith
 
 pub buffer_word_chosen : (part : Part) (f i : ℕ) → i < size part f → chosen f (buffer_word part f i) ≡ true
 unfolding buffer_word chosen

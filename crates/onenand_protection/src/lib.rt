@@ -2,10 +2,10 @@
 #![tactic(auto)]
 
 ghost use Rattle.std.specs.Prelude.{◌≡◌, ◌-◌, ◌<◌};
-ghost use Rattle.onenand_protection.specs.Protection.{is_tight, is_unlocked, lock_at, tight_among, hindered, obeyed, lock_made, table_made, table_after, protection_word};
+ghost use Rattle.onenand_protection.specs.Protection.{is_unlocked, lock_at, in_range, tight_among, hindered, obeyed, lock_made, table_made, table_after, protection_word};
 
 // How a block is protected. Tight is lock-tight: locked, and so until the chip is reset.
-#[derive(Clone, Copy)]
+#[derive(Clone, Copy, PartialEq, Eq, Debug)]
 pub enum Lock {
     Locked,
     Unlocked,
@@ -13,23 +13,11 @@ pub enum Lock {
 }
 
 impl Lock {
-    fn is_tight(self) -> bool
-        ensures { result ≡ is_tight self }
-    {
-        match self {
-            Lock::Tight => true,
-            Lock::Locked | Lock::Unlocked => false,
-        }
-    }
-
     // Whether the block takes programs and erases.
     pub fn is_unlocked(self) -> bool
         ensures { result ≡ is_unlocked self }
     {
-        match self {
-            Lock::Unlocked => true,
-            Lock::Locked | Lock::Tight => false,
-        }
+        self == Lock::Unlocked
     }
 
     // What F24Eh shows once a command has made blocks so.
@@ -42,81 +30,88 @@ impl Lock {
             Lock::Tight => 0x0001,
         }
     }
-
-    // What an obeyed command for this state, over the range from a to z, makes of block b.
-    fn made(self, a: usize, z: usize, b: usize, old: Lock) -> Lock
-        ensures { result ≡ lock_made self a z b old }
-    {
-        let inside = a <= b && b <= z;
-        match self {
-            Lock::Unlocked if inside => Lock::Unlocked,
-            Lock::Unlocked if old.is_tight() => Lock::Tight,
-            Lock::Unlocked => Lock::Locked,
-            Lock::Locked if inside => Lock::Locked,
-            Lock::Tight if inside => Lock::Tight,
-            Lock::Locked | Lock::Tight => old,
-        }
-    }
 }
 
 // The state of block b in a table, and locked past its end.
 pub fn lock_at(table: &[Lock], b: usize) -> Lock
     ensures { result ≡ lock_at table.now b }
 {
-    if b < table.len() {
-        table[b]
-    } else {
-        Lock::Locked
-    }
+    table.get(b).copied().unwrap_or(Lock::Locked)
 }
 
 // Whether one of the blocks from a to below e is tight.
 fn tight_among(locks: &[Lock], a: usize, e: usize) -> bool
     ensures { result ≡ tight_among (lock_at locks.now) a (e - a) }
 {
-    for b in a..e {
-        if lock_at(locks, b).is_tight() {
-            return true;
+    (a..e).any(|b| lock_at(locks, b) == Lock::Tight)
+}
+
+// A protection command: the state that it makes, and the first and last block of its range.
+#[derive(Clone, Copy, PartialEq, Eq, Debug)]
+pub struct Protection {
+    pub lock: Lock,
+    pub first: u16,
+    pub last: u16,
+}
+
+impl Protection {
+    // Whether block b is in the range.
+    fn covers(self, b: usize) -> bool
+        ensures { result ≡ in_range self.first self.last b }
+    {
+        self.first as usize <= b && b <= self.last as usize
+    }
+
+    // What the command, obeyed, makes of block b.
+    fn made(self, b: usize, old: Lock) -> Lock
+        ensures { result ≡ lock_made self.lock self.first self.last b old }
+    {
+        if self.covers(b) {
+            self.lock
+        } else if self.lock == Lock::Unlocked && old != Lock::Tight {
+            Lock::Locked
+        } else {
+            old
         }
     }
-    false
-}
 
-// Whether a tight block stands in the way of a command that makes blocks l.
-fn is_hindered(locks: &[Lock], n: usize, l: Lock, a: u16, z: u16) -> bool
-    ensures { result ≡ hindered n l a z (lock_at locks.now) }
-{
-    match l {
-        Lock::Unlocked | Lock::Locked => tight_among(locks, a as usize, z as usize + 1),
-        Lock::Tight => tight_among(locks, 0, n),
+    // Whether a tight block, of n, stands in the way.
+    fn is_hindered(self, locks: &[Lock], n: usize) -> bool
+        ensures { result ≡ hindered n self.lock self.first self.last (lock_at locks.now) }
+    {
+        match self.lock {
+            Lock::Unlocked | Lock::Locked => {
+                tight_among(locks, self.first as usize, self.last as usize + 1)
+            }
+            Lock::Tight => tight_among(locks, 0, n),
+        }
     }
-}
 
-// Whether a command that makes the blocks from a to z, of n, l is obeyed.
-fn is_obeyed(locks: &[Lock], n: usize, l: Lock, a: u16, z: u16) -> bool
-    ensures { result ≡ obeyed n l a z (lock_at locks.now) }
-{
-    a <= z && (z as usize) < n && !is_hindered(locks, n, l, a, z)
-}
-
-// Makes the table anew, as an obeyed command does.
-fn make_table(locks: &mut [Lock], l: Lock, a: usize, z: usize)
-    ensures { locks.new ≡ table_made l a z locks.old }
-{
-    for b in 0..locks.len() {
-        let old = lock_at(locks, b);
-        locks[b] = l.made(a, z, b, old);
+    // Whether the command is obeyed by a chip of n blocks.
+    fn is_obeyed(self, locks: &[Lock], n: usize) -> bool
+        ensures { result ≡ obeyed n self.lock self.first self.last (lock_at locks.now) }
+    {
+        self.first <= self.last && (self.last as usize) < n && !self.is_hindered(locks, n)
     }
-}
 
-// A protection command, which makes the blocks from a to z, of n, l: says whether it was obeyed.
-pub fn protect(locks: &mut [Lock], n: usize, l: Lock, a: u16, z: u16) -> bool
-    ensures value { result ≡ obeyed n l a z (lock_at locks.old) }
-    ensures locks { locks.new ≡ table_after n l a z locks.old }
-{
-    let yes = is_obeyed(locks, n, l, a, z);
-    if yes {
-        make_table(locks, l, a as usize, z as usize);
+    // Makes the table anew, as the command does that is obeyed.
+    fn make_table(self, locks: &mut [Lock])
+        ensures { locks.new ≡ table_made self.lock self.first self.last locks.old }
+    {
+        for (b, lock) in locks.iter_mut().enumerate() {
+            *lock = self.made(b, *lock);
+        }
     }
-    yes
+
+    // Puts the command to the states of n blocks: says whether it was obeyed.
+    pub fn apply(self, locks: &mut [Lock], n: usize) -> bool
+        ensures value { result ≡ obeyed n self.lock self.first self.last (lock_at locks.old) }
+        ensures locks { locks.new ≡ table_after n self.lock self.first self.last locks.old }
+    {
+        let obeyed = self.is_obeyed(locks, n);
+        if obeyed {
+            self.make_table(locks);
+        }
+        obeyed
+    }
 }

@@ -5,7 +5,7 @@ ghost use Rattle.onenand_registers.specs.Addresses.{place_of, register_at};
 use crate::registers::Operand;
 
 // What stands at an address. Addresses count words.
-#[derive(Clone, Copy)]
+#[derive(Clone, Copy, PartialEq, Eq, Debug)]
 pub enum Place {
     // A word of BootRAM: 512 main words, then 16 spare words.
     Boot(u16),

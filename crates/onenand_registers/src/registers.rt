@@ -18,7 +18,7 @@ const BOOT_INTERRUPT: u16 = 0x8080;
 const RESET_INTERRUPT: u16 = 0x8010;
 
 // The registers that commands take their operands from.
-#[derive(Clone, Copy)]
+#[derive(Clone, Copy, PartialEq, Eq, Debug)]
 pub enum Operand {
     Block,
     CopyBlock,
@@ -43,7 +43,7 @@ impl Operand {
 }
 
 // What those registers hold.
-#[derive(Clone, Copy)]
+#[derive(Clone, Copy, Default, PartialEq, Eq, Debug)]
 pub struct Operands {
     // F100h: the block.
     pub block: u16,
@@ -76,6 +76,7 @@ impl Operands {
         }
     }
 
+    // Stays: get borrows and put borrows to change, so one function that finds the register would not serve both.
     fn put(&mut self, o: Operand, w: u16)
         ensures { self.new ≡ operand_put self.old o w }
     {
@@ -99,7 +100,7 @@ impl Operands {
 }
 
 // All registers but the read-only identity words.
-#[derive(Clone, Copy)]
+#[derive(Clone, Copy, PartialEq, Eq, Debug)]
 pub struct Registers {
     pub operands: Operands,
     // F220h: the last command that was accepted.
@@ -119,15 +120,7 @@ impl Registers {
         ensures { result ≡ started config interrupt protection }
     {
         Registers {
-            operands: Operands {
-                block: 0,
-                copy_block: 0,
-                copy_page: 0,
-                page: 0,
-                buffer: 0,
-                first: 0,
-                last: 0,
-            },
+            operands: Operands::default(),
             command: 0,
             config,
             status: 0,

@@ -1,5 +1,5 @@
 -- The row that a tick begins suits what runs, and a row that suits it leads the ticks along it.
-use Rattle.std.proofs.Common.{◌≡◌, ℕ, ◌+◌, ◌-◌, ◌*◌, ◌/◌, ◌%◌, ◌<◌, ◌≤◌, true, ltb, leb, sym, refl, ap, ◌∙◌, subst, arith}
+use Rattle.std.proofs.Common.{◌≡◌, ℕ, ◌+◌, ◌-◌, ◌*◌, ◌/◌, ◌%◌, ◌<◌, ◌≤◌, true, Some, None, Option, eqb, ltb, leb, sym, refl, ap, ◌∙◌, subst, arith}
 use Rattle.std.proofs.lemmas.Bool.{cond_both, cond-true, cond-false, ltb-true, ltb-false, lt-ltb, le-ltb, and_parts, leb-true}
 use Rattle.std.proofs.lemmas.Bool.Decides.{nat_tests}
 use Rattle.onenand_registers.specs.Bits.{bit}
@@ -9,15 +9,14 @@ use Rattle.onenand_transfer.specs.declared.Transfer.{Transfer}
 use Rattle.onenand_transfer.specs.Transfers.{size, words, sector_word, page_of, page_sector, buffer_sector, page_word, buffer_word}
 use Rattle.onenand_rules.specs.declared.plans.Plan.{Plan}
 use Rattle.onenand_rules.specs.declared.plans.Plan.TheVariants.{Fails, Loads, Programs, Copies, Erases, Verifies, Protects, Resets}
-use Rattle.onenand_rules.specs.declared.plans.Running.{Running}
-use Rattle.onenand_rules.specs.declared.plans.Running.TheVariants.{Idle, Runs}
+use Rattle.onenand_rules.specs.declared.plans.Running.TheVariants.{Runs}
 use Rattle.onenand_rules.specs.declared.plans.Action.{Action}
 use Rattle.onenand_rules.specs.declared.plans.Action.TheVariants.{LoadWord, ProgramWord}
 use Rattle.onenand_rules.specs.Plans.{ticks_of, action_of}
 use Rattle.onenand_rows.specs.declared.Way.{Way}
 use Rattle.onenand_rows.specs.declared.Way.TheVariants.{Load, Program}
 use Rattle.onenand_rows.specs.declared.Row.{Row}
-use Rattle.onenand_rows.specs.Rows.{left, row_length, row_at, no_row, row_of, is_along, Suits}
+use Rattle.onenand_rows.specs.Rows.{left, row_length, row_from, row_at, row_of, is_along, Suits}
 
 -- what moves word i of a transfer
 abbrev pub moves : Way → Transfer → ℕ → Action
@@ -73,7 +72,7 @@ before_end Whole f i o h = let k = stays (264 * (2 - bit 0 f)) i o h in omega ar
 before_end Spare f i o h = absurd (omega arith)
 
 -- the words of a row stand where it says
-row_stands : (way : Way) (t : Transfer) (i k o : ℕ) → o < row_length t i → Stands (row_at way t i k) o t (i + o)
+row_stands : (way : Way) (t : Transfer) (i k o : ℕ) → o < row_length t i → Stands (row_from way t i k) o t (i + o)
 row_stands way t i k o h = record {
   block = refl;
   page = refl;
@@ -81,19 +80,18 @@ row_stands way t i k o h = record {
   place = data_up t.part (words t) t.buffer i o h;
 }
 
--- along a row of a plan
-abbrev Led : Row → Plan → Type 0
-Led r p = (o : ℕ) → o < r.length → Leads r p (r.from + o) o
-
-no_row_led : (p : Plan) → Led no_row p
-no_row_led p o h = absurd (omega arith)
+-- along a row of a plan, if there is one
+abbrev Led : Option Row → Plan → Type 0
+Led None p = Unit {0}
+Led (Some r) p = (o : ℕ) → o < r.length → Leads r p (r.from + o) o
 
 -- by what the ticks along it do
 row_led : (p : Plan) (way : Way) (t : Transfer) (i k : ℕ)
     → ((o : ℕ) → o < row_length t i → action_of p (k + o) ≡ moves way t (i + o))
     → ((o : ℕ) → o < row_length t i → (k + o) + 1 < ticks_of p)
     → Led (row_at way t i k) p
-row_led p way t i k a g o h = record { of = t; number = i + o; acts = a o h; stands = row_stands way t i k o h; goes_on = g o h }
+row_led p way t i k a g = cond_both (eqb (row_length t i) 0) None (Some (row_from way t i k)) (λ (r : Option Row). Led r p) (λ e. tt)
+    (λ e o h. record { of = t; number = i + o; acts = a o h; stands = row_stands way t i k o h; goes_on = g o h })
 
 -- in the first half of a copy-back, and in the second
 module _ (from to : Transfer) (k : ℕ) where
@@ -109,32 +107,20 @@ module _ (from to : Transfer) (k : ℕ) where
       (λ o l. let e = before_end to.part to.buffer (k - words from) o l in omega arith)
 
 begun : (p : Plan) (k : ℕ) → Led (row_of (Runs p k)) p
-begun (Fails f d) k = no_row_led (Fails f d)
+begun (Fails f d) k = tt
 begun (Loads t) k = row_led (Loads t) Load t k k (λ o h. refl) (λ o h. before_end t.part t.buffer k o h)
 begun (Programs t) k = row_led (Programs t) Program t k k (λ o h. refl) (λ o h. before_end t.part t.buffer k o h)
-begun (Copies from to) k = cond_both (ltb k (words from)) _ _ (λ (r : Row). Led r (Copies from to))
+begun (Copies from to) k = cond_both (ltb k (words from)) _ _ (λ (r : Option Row). Led r (Copies from to))
     (λ e. loads from to k (ltb-true k (words from) e)) (λ e. programs from to k (ltb-false k (words from) e))
-begun (Erases b) k = no_row_led (Erases b)
-begun (Verifies b) k = no_row_led (Verifies b)
-begun (Protects l a z) k = no_row_led (Protects l a z)
-begun (Resets r) k = no_row_led (Resets r)
+begun (Erases b) k = tt
+begun (Verifies b) k = tt
+begun (Protects p) k = tt
+begun (Resets r) k = tt
 
-pub leads : (r : Row) (p : Plan) (k : ℕ) → Suits r (Runs p k) → is_along r k ≡ true → Leads r p k (k - r.from)
+pub leads : (r : Row) (p : Plan) (k : ℕ) → Suits (Some r) (Runs p k) → is_along r k ≡ true → Leads r p k (k - r.from)
 leads r p k suits along =
     let t = and_parts (leb r.from k) (ltb (k - r.from) r.length) along in
     let h = leb-true r.from k t.0 in
     let here : r.from + (k - r.from) ≡ k = omega arith in
-    let led : Led r p = subst (λ (x : Row). Led x p) (sym suits) (begun p r.from) in
+    let led : Led (Some r) p = subst (λ (x : Option Row). Led x p) (sym suits) (begun p r.from) in
     subst (λ j. Leads r p j (k - r.from)) here (led (k - r.from) (ltb-true (k - r.from) r.length t.1))
-
--- a row began with the tick that it says, unless there is none
-pub next_suits : (u : Running) → Suits (row_of u) u
-next_suits Idle = refl
-next_suits (Runs (Fails f d) k) = refl
-next_suits (Runs (Loads t) k) = refl
-next_suits (Runs (Programs t) k) = refl
-next_suits (Runs (Copies from to) k) = ap (λ j. row_of (Runs (Copies from to) j)) (cond_both (ltb k (words from)) (row_at Load from k k) (row_at Program to (k - words from) k) (λ (r : Row). k ≡ r.from) (λ e. refl) (λ e. refl))
-next_suits (Runs (Erases b) k) = refl
-next_suits (Runs (Verifies b) k) = refl
-next_suits (Runs (Protects l a z) k) = refl
-next_suits (Runs (Resets r) k) = refl

@@ -1,5 +1,6 @@
 -- Rows of a transfer's words, and when a row suits what runs.
-use Rattle.std.specs.Prelude.{◌≡◌, ℕ, ◌-◌, ◌%◌, Bool, cond, ◌&&◌, nat_le, nat_lt}
+use Rattle.std.specs.Prelude.{◌≡◌, ℕ, ◌+◌, ◌-◌, ◌%◌, Bool, cond, ◌&&◌, ◌==◌, Some, None, Option, nat_le, nat_lt}
+use Rattle.flash.specs.declared.Location.{Location}
 use Rattle.onenand_transfer.specs.declared.Part.{Part}
 use Rattle.onenand_transfer.specs.declared.Part.TheVariants.{Whole, Spare}
 use Rattle.onenand_transfer.specs.declared.Transfer.{Transfer}
@@ -20,9 +21,9 @@ left Spare n i = 0
 abbrev pub row_length : Transfer → ℕ → ℕ
 row_length t i = left t.part (words t) i
 
--- the row that begins with word i of a transfer, which tick k moves
-abbrev pub row_at : Way → Transfer → ℕ → ℕ → Row
-row_at way t i k = record {
+-- the row that begins with word i of a transfer, which tick k moves, of any words or of none
+abbrev pub row_from : Way → Transfer → ℕ → ℕ → Row
+row_from way t i k = record {
   way = way;
   from = k;
   length = row_length t i;
@@ -32,39 +33,41 @@ row_at way t i k = record {
   «data» = buffer_word t.part t.buffer i;
 }
 
--- a row of no words
-abbrev pub no_row : Row
-no_row = record {
-  way = Load;
-  from = 0;
-  length = 0;
-  block = 0;
-  page = 0;
-  word = 0;
-  «data» = 0;
-}
+-- that row, where it is of any words
+abbrev pub row_at : Way → Transfer → ℕ → ℕ → Option Row
+row_at way t i k = cond (row_length t i == 0) None (Some (row_from way t i k))
 
 -- the row that the next tick begins
-abbrev pub row_of : Running → Row
-row_of Idle = no_row
-row_of (Runs (Fails f d) k) = no_row
+abbrev pub row_of : Running → Option Row
+row_of Idle = None
+row_of (Runs (Fails f d) k) = None
 row_of (Runs (Loads t) k) = row_at Load t k k
 row_of (Runs (Programs t) k) = row_at Program t k k
 row_of (Runs (Copies from to) k) = cond (nat_lt k (words from)) (row_at Load from k k) (row_at Program to (k - words from) k)
-row_of (Runs (Erases b) k) = no_row
-row_of (Runs (Verifies b) k) = no_row
-row_of (Runs (Protects l a z) k) = no_row
-row_of (Runs (Resets r) k) = no_row
+row_of (Runs (Erases b) k) = None
+row_of (Runs (Verifies b) k) = None
+row_of (Runs (Protects p) k) = None
+row_of (Runs (Resets r) k) = None
 
 -- tick k moves a word of the row
 abbrev pub is_along : Row → ℕ → Bool
 is_along r k = nat_le r.from k && nat_lt (k - r.from) r.length
+
+-- where word o of a row stands in the array
+abbrev pub location_of : Row → ℕ → Location
+location_of r o = record { block = r.block; page = r.page; word = r.word + o }
 
 -- what runs, as it was or will be at tick k
 abbrev pub at_tick : Running → ℕ → Running
 at_tick Idle k = Idle
 at_tick (Runs p j) k = Runs p k
 
--- a row suits what runs: it is what `row_of` gives for the same plan at the row's first tick
-abbrev pub Suits : Row → Running → Type 0
-Suits r u = r ≡ row_of (at_tick u r.from)
+-- what ran as a row began: at the row's first tick, and where there is no row, now
+abbrev pub began : Option Row → Running → Running
+began None u = u
+began (Some r) u = at_tick u r.from
+
+-- a row suits what runs: it is what `row_of` gives for the same plan at the row's first tick; and there is none only where the
+-- next tick begins none
+abbrev pub Suits : Option Row → Running → Type 0
+Suits r u = r ≡ row_of (began r u)

@@ -2,14 +2,15 @@
 // row need not work out where its word stands.
 #![tactic(auto)]
 
-ghost use Rattle.std.specs.Prelude.{◌≡◌};
-ghost use Rattle.onenand_rows.specs.Rows.{row_length, row_at, no_row, row_of, is_along, Suits};
+ghost use Rattle.std.specs.Prelude.{◌≡◌, ◌+◌};
+ghost use Rattle.onenand_rows.specs.Rows.{row_length, row_at, row_of, is_along, location_of, Suits};
 
+use flash::Location;
 use onenand_rules::plans::{Plan, Running};
 use onenand_transfer::{Part, Transfer};
 
 // Which way the words of a row move.
-#[derive(Clone, Copy)]
+#[derive(Clone, Copy, PartialEq, Eq, Debug)]
 pub enum Way {
     // To DataRAM.
     Load,
@@ -17,8 +18,8 @@ pub enum Way {
     Program,
 }
 
-// A row of words, of none where its length is 0.
-#[derive(Clone, Copy)]
+// A row of words.
+#[derive(Clone, Copy, PartialEq, Eq, Debug)]
 pub struct Row {
     pub way: Way,
     // The tick that moves its first word, and how many ticks go along it.
@@ -42,62 +43,44 @@ fn length(t: Transfer, i: u16) -> u16
     }
 }
 
-// The row that the next tick begins, if it moves a word.
-fn next_row(running: Running) -> Row
-    ensures { result ≡ row_of running }
-{
-    match running {
-        Running::Runs(Plan::Loads(t), k) => Row::at(Way::Load, t, k, k),
-        Running::Runs(Plan::Programs(t), k) => Row::at(Way::Program, t, k, k),
-        Running::Runs(Plan::Copies(from, to), k) => {
-            let n = from.words();
-            if k < n {
-                Row::at(Way::Load, from, k, k)
-            } else {
-                Row::at(Way::Program, to, k - n, k)
-            }
-        }
-        _ => Row::none(),
-    }
-}
-
 impl Row {
-    // The row that begins with word i of a transfer, which tick k moves.
-    fn at(way: Way, t: Transfer, i: u16, k: u16) -> Row
+    // The row that begins with word i of a transfer, which tick k moves, if it is of any words.
+    fn at(way: Way, t: Transfer, i: u16, k: u16) -> Option<Row>
         ensures { result ≡ row_at way t i k }
     {
-        Row {
+        let length = length(t, i);
+        if length == 0 {
+            return None;
+        }
+        Some(Row {
             way,
             from: k,
-            length: length(t, i),
+            length,
             block: t.block,
             page: t.page / 4,
             word: t.page_word(i) as u16,
             data: t.buffer_word(i) as u16,
-        }
+        })
     }
 
-    // No words at all.
-    fn none() -> Row
-        ensures { result ≡ no_row }
-    {
-        Row {
-            way: Way::Load,
-            from: 0,
-            length: 0,
-            block: 0,
-            page: 0,
-            word: 0,
-            data: 0,
-        }
-    }
-
-    // The row that the next tick begins, if it moves a word.
-    pub fn of(running: Running) -> Row
+    // The row that the next tick begins, if it begins one.
+    pub fn of(running: Running) -> Option<Row>
         ensures value { result ≡ row_of running }
         ensures suits { Suits result running }
     {
-        next_row(running)
+        match running {
+            Running::Runs(Plan::Loads(t), k) => Row::at(Way::Load, t, k, k),
+            Running::Runs(Plan::Programs(t), k) => Row::at(Way::Program, t, k, k),
+            Running::Runs(Plan::Copies(from, to), k) => {
+                let n = from.words();
+                if k < n {
+                    Row::at(Way::Load, from, k, k)
+                } else {
+                    Row::at(Way::Program, to, k - n, k)
+                }
+            }
+            _ => None,
+        }
     }
 
     // Whether tick k moves a word of the row.
@@ -105,5 +88,23 @@ impl Row {
         ensures { result ≡ is_along self.now k }
     {
         self.from <= k && k - self.from < self.length
+    }
+
+    // Where its word o stands in the array.
+    pub fn location(&self, o: u16) -> Location
+        ensures { result ≡ location_of self.now o }
+    {
+        Location {
+            block: self.block as usize,
+            page: self.page as usize,
+            word: self.word as usize + o as usize,
+        }
+    }
+
+    // Where its word o stands in DataRAM.
+    pub fn place(&self, o: u16) -> usize
+        ensures { result ≡ self.now.«data» + o }
+    {
+        self.data as usize + o as usize
     }
 }

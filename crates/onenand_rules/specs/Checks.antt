@@ -2,6 +2,7 @@
 -- t: the state of each block; o: the operands; n: how many blocks there are; q: the command.
 use Rattle.std.specs.Prelude.{ℕ, Bool, true, false, cond, ◌&&◌, Ok, Err, Result, nat_lt}
 use Rattle.onenand_protection.specs.declared.Lock.{Lock}
+use Rattle.onenand_protection.specs.declared.Protection.{Protection}
 use Rattle.onenand_protection.specs.Protection.{is_unlocked}
 use Rattle.onenand_registers.specs.declared.registers.Operands.{Operands}
 use Rattle.onenand_transfer.specs.declared.Part.{Part}
@@ -79,6 +80,10 @@ transfer_of o p = record { block = o.block; page = o.page; buffer = o.buffer; pa
 abbrev pub copy_target : Operands → Transfer
 copy_target o = record { block = o.copy_block; page = o.copy_page; buffer = o.buffer; part = Whole }
 
+-- a protection command with F24Ch and F24Dh
+abbrev pub protection_of : Operands → Lock → Protection
+protection_of o l = record { lock = l; first = o.first; last = o.last }
+
 -- what a command that passes its checks is going to do
 abbrev pub intended : Operands → Command → Plan
 intended o (Load p) = Loads (transfer_of o p)
@@ -86,7 +91,7 @@ intended o (Program p) = Programs (transfer_of o p)
 intended o CopyBack = Copies (transfer_of o Whole) (copy_target o)
 intended o Erase = Erases o.block
 intended o Verify = Verifies o.block
-intended o (Protect l) = Protects l o.first o.last
+intended o (Protect l) = Protects (protection_of o l)
 intended o (Reset r) = Resets r
 intended o Unknown = Fails Plain Other
 

@@ -1,5 +1,5 @@
 -- What an accepted command is going to do, tick by tick.
--- f: how it fails; t, from, to: transfers; b: a block; l, a, z: the state that it makes of the blocks from a to z; k: ticks had.
+-- f: how it fails; t, from, to: transfers; b: a block; p: a plan, or a protection command; k: ticks had.
 use Rattle.std.specs.Prelude.{ℕ, ◌+◌, ◌-◌, Bool, true, false, cond, not, ◌||◌, nat_lt}
 use Rattle.onenand_transfer.specs.Transfers.{words, chosen}
 use Rattle.onenand_rules.specs.declared.commands.ResetKind.TheVariants.{Core, Hot}
@@ -24,7 +24,7 @@ ticks_of (Programs t) = words t
 ticks_of (Copies from to) = words from + words to
 ticks_of (Erases b) = 64
 ticks_of (Verifies b) = 64
-ticks_of (Protects l a z) = 1
+ticks_of (Protects p) = 1
 ticks_of (Resets r) = 1
 
 -- what its tick number k, from 0, does
@@ -35,7 +35,7 @@ action_of (Programs t) k = ProgramWord t k
 action_of (Copies from to) k = cond (nat_lt k (words from)) (LoadWord from k) (ProgramWord to (k - words from))
 action_of (Erases b) k = cond (nat_lt k 63) Wait (EraseBlock b)
 action_of (Verifies b) k = VerifyPage b k
-action_of (Protects l a z) k = SetLocks l a z
+action_of (Protects p) k = SetLocks p
 action_of (Resets r) k = Wait
 
 -- what a plan counts as in F240h and F241h
@@ -46,7 +46,7 @@ plan_kind (Programs t) = Programming
 plan_kind (Copies from to) = Programming
 plan_kind (Erases b) = Erasing
 plan_kind (Verifies b) = Verifying
-plan_kind (Protects l a z) = Other
+plan_kind (Protects p) = Other
 plan_kind (Resets r) = Resetting
 
 -- what an end with Error shows of it: Lock only where a check barred it
@@ -57,7 +57,7 @@ plan_fault (Programs t) = Plain
 plan_fault (Copies from to) = Plain
 plan_fault (Erases b) = Plain
 plan_fault (Verifies b) = Plain
-plan_fault (Protects l a z) = Plain
+plan_fault (Protects p) = Plain
 plan_fault (Resets r) = Plain
 
 -- its end gives the registers their start values
@@ -68,7 +68,7 @@ is_hot (Programs t) = false
 is_hot (Copies from to) = false
 is_hot (Erases b) = false
 is_hot (Verifies b) = false
-is_hot (Protects l a z) = false
+is_hot (Protects p) = false
 is_hot (Resets Core) = false
 is_hot (Resets Hot) = true
 
@@ -80,7 +80,7 @@ taken_by (Programs t) x = chosen t.buffer x
 taken_by (Copies from to) x = chosen from.buffer x
 taken_by (Erases b) x = false
 taken_by (Verifies b) x = false
-taken_by (Protects l a z) x = false
+taken_by (Protects p) x = false
 taken_by (Resets r) x = false
 
 -- and so by what runs
@@ -96,7 +96,7 @@ holds_off (Programs t) = false
 holds_off (Copies from to) = false
 holds_off (Erases b) = false
 holds_off (Verifies b) = false
-holds_off (Protects l a z) = true
+holds_off (Protects p) = true
 holds_off (Resets r) = true
 
 -- a command meets a busy chip

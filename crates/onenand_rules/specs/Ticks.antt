@@ -40,7 +40,7 @@ succeeds m (LoadWord t i) = true
 succeeds m (ProgramWord t i) = programmable m t.block (page_of t.page) (page_word t.part t.page i)
 succeeds m (EraseBlock b) = erasable m b
 succeeds m (VerifyPage b p) = blank m b p page_words
-succeeds m (SetLocks l a z) = true
+succeeds m (SetLocks p) = true
 
 -- what it makes of DataRAM
 abbrev pub data_after : List ℕ → Meaning → Action → List ℕ
@@ -50,7 +50,7 @@ data_after d m (LoadWord t i) = slice_set d (buffer_word t.part t.buffer i) (arr
 data_after d m (ProgramWord t i) = d
 data_after d m (EraseBlock b) = d
 data_after d m (VerifyPage b p) = d
-data_after d m (SetLocks l a z) = d
+data_after d m (SetLocks p) = d
 
 -- what it makes of the block states
 abbrev pub locks_after : ℕ → Action → List Lock → List Lock
@@ -60,7 +60,7 @@ locks_after n (LoadWord r i) t = t
 locks_after n (ProgramWord r i) t = t
 locks_after n (EraseBlock b) t = t
 locks_after n (VerifyPage b p) t = t
-locks_after n (SetLocks l a z) t = table_after n l a z t
+locks_after n (SetLocks p) t = table_after n p.lock p.first p.last t
 
 -- what it makes of F24Eh
 abbrev pub protection_after : ℕ → Action → List Lock → ℕ → ℕ
@@ -70,7 +70,7 @@ protection_after n (LoadWord r i) t w = w
 protection_after n (ProgramWord r i) t w = w
 protection_after n (EraseBlock b) t w = w
 protection_after n (VerifyPage b p) t w = w
-protection_after n (SetLocks l a z) t w = cond (obeyed n l a z (lock_at t)) (protection_word l) w
+protection_after n (SetLocks p) t w = cond (obeyed n p.lock p.first p.last (lock_at t)) (protection_word p.lock) w
 
 -- what it makes of the array, where it goes well
 abbrev pub array_after : List ℕ → Meaning → Action → Meaning
@@ -80,7 +80,7 @@ array_after d m (LoadWord t i) = m
 array_after d m (ProgramWord t i) = programmed m t.block (page_of t.page) (page_word t.part t.page i) (data_word d t i)
 array_after d m (EraseBlock b) = erased m b
 array_after d m (VerifyPage b p) = m
-array_after d m (SetLocks l a z) = m
+array_after d m (SetLocks p) = m
 
 -- the registers after it: F24Eh alone may differ
 abbrev pub registers_after : State → Action → Registers

@@ -6,14 +6,14 @@ use onenand_protection::Lock;
 use onenand_transfer::Part;
 
 // A reset that is written as a command.
-#[derive(Clone, Copy)]
+#[derive(Clone, Copy, PartialEq, Eq, Debug)]
 pub enum ResetKind {
     Core,
     Hot,
 }
 
 // What a word written to F220h asks for.
-#[derive(Clone, Copy)]
+#[derive(Clone, Copy, PartialEq, Eq, Debug)]
 pub enum Command {
     Load(Part),
     Program(Part),
@@ -24,11 +24,12 @@ pub enum Command {
     Protect(Lock),
     Reset(ResetKind),
     // A word that is no command.
+    // Stays: such a word is accepted, runs for a tick and ends with Error, so it is a command among others, and not None.
     Unknown,
 }
 
 // What a command counts as in F240h and F241h.
-#[derive(Clone, Copy)]
+#[derive(Clone, Copy, PartialEq, Eq, Debug)]
 pub enum Kind {
     Loading,
     Programming,
@@ -39,17 +40,17 @@ pub enum Kind {
 }
 
 // How a command ends that fails: with Error alone, or with Lock as well.
-#[derive(Clone, Copy)]
+#[derive(Clone, Copy, PartialEq, Eq, Debug)]
 pub enum Fault {
     Plain,
     Barred,
 }
 
-impl Command {
-    // The command that a word written to F220h is.
-    pub fn decode(code: u16) -> Command
-        ensures { result ≡ command_of code }
-    {
+// The command that a word written to F220h is.
+impl From<u16> for Command {
+    ghost from_gives = { λ code command. command ≡ command_of code };
+
+    fn from(code: u16) -> Command {
         match code {
             0x0000 => Command::Load(Part::Whole),
             0x0013 => Command::Load(Part::Spare),
@@ -66,15 +67,14 @@ impl Command {
             _ => Command::Unknown,
         }
     }
+}
 
+impl Command {
     // Whether it is 00F0h or 00F3h.
     pub fn is_reset(self) -> bool
         ensures { result ≡ is_reset self }
     {
-        match self {
-            Command::Reset(_) => true,
-            _ => false,
-        }
+        matches!(self, Command::Reset(_))
     }
 
     // What it counts as in F240h and F241h.

@@ -3,14 +3,14 @@ ghost use Rattle.std.specs.Prelude.{◌≡◌, ◌<◌, ◌≤◌};
 ghost use Rattle.onenand_rules.specs.Plans.{ticks_of, action_of, plan_kind, plan_fault, is_hot, taken_by, taken, holds_off, busy};
 
 use crate::commands::{Command, Fault, Kind, ResetKind};
-use onenand_protection::Lock;
+use onenand_protection::Protection;
 use onenand_transfer::Transfer;
 
 // An erase and a verify take a tick for each page of a block.
 const PAGE_TICKS: u16 = 64;
 
 // What an accepted command is going to do, with all that it took of the registers.
-#[derive(Clone, Copy)]
+#[derive(Clone, Copy, PartialEq, Eq, Debug)]
 pub enum Plan {
     // It failed a check.
     Fails(Fault, Kind),
@@ -20,20 +20,19 @@ pub enum Plan {
     Copies(Transfer, Transfer),
     Erases(u16),
     Verifies(u16),
-    // Makes the blocks from the first to the last so.
-    Protects(Lock, u16, u16),
+    Protects(Protection),
     Resets(ResetKind),
 }
 
 // What runs, and how many ticks it has had.
-#[derive(Clone, Copy)]
+#[derive(Clone, Copy, PartialEq, Eq, Debug)]
 pub enum Running {
     Idle,
     Runs(Plan, u16),
 }
 
 // What one tick does.
-#[derive(Clone, Copy)]
+#[derive(Clone, Copy, PartialEq, Eq, Debug)]
 pub enum Action {
     Fail,
     Wait,
@@ -43,7 +42,7 @@ pub enum Action {
     EraseBlock(u16),
     // A page of a block.
     VerifyPage(u16, u16),
-    SetLocks(Lock, u16, u16),
+    SetLocks(Protection),
 }
 
 impl Plan {
@@ -57,7 +56,7 @@ impl Plan {
             Plan::Loads(t) | Plan::Programs(t) => t.words(),
             Plan::Copies(from, to) => from.words() + to.words(),
             Plan::Erases(_) | Plan::Verifies(_) => PAGE_TICKS,
-            Plan::Fails(_, _) | Plan::Protects(_, _, _) | Plan::Resets(_) => 1,
+            Plan::Fails(_, _) | Plan::Protects(_) | Plan::Resets(_) => 1,
         }
     }
 
@@ -85,7 +84,7 @@ impl Plan {
                 }
             }
             Plan::Verifies(b) => Action::VerifyPage(b, k),
-            Plan::Protects(l, a, z) => Action::SetLocks(l, a, z),
+            Plan::Protects(p) => Action::SetLocks(p),
             Plan::Resets(_) => Action::Wait,
         }
     }
@@ -100,7 +99,7 @@ impl Plan {
             Plan::Programs(_) | Plan::Copies(_, _) => Kind::Programming,
             Plan::Erases(_) => Kind::Erasing,
             Plan::Verifies(_) => Kind::Verifying,
-            Plan::Protects(_, _, _) => Kind::Other,
+            Plan::Protects(_) => Kind::Other,
             Plan::Resets(_) => Kind::Resetting,
         }
     }
@@ -119,10 +118,7 @@ impl Plan {
     pub fn is_hot(self) -> bool
         ensures { result ≡ is_hot self }
     {
-        match self {
-            Plan::Resets(ResetKind::Hot) => true,
-            _ => false,
-        }
+        matches!(self, Plan::Resets(ResetKind::Hot))
     }
 
     // Whether it uses the sector of a DataRAM word.
@@ -139,10 +135,7 @@ impl Plan {
     fn holds_off(self) -> bool
         ensures { result ≡ holds_off self }
     {
-        match self {
-            Plan::Protects(_, _, _) | Plan::Resets(_) => true,
-            _ => false,
-        }
+        matches!(self, Plan::Protects(_) | Plan::Resets(_))
     }
 }
 

@@ -1,8 +1,15 @@
 -- What moving one word does, by where it stands: word w of page p of block b, and word x of DataRAM.
 use Rattle.std.specs.Prelude.{ℕ, Bool, true, List, slice_index, slice_set}
+use Rattle.flash.specs.declared.Location.{Location}
 use Rattle.flash.specs.Meaning.{Meaning, word_at, programmable, after_program}
+use Rattle.onenand_transfer.specs.declared.Transfer.{Transfer}
+use Rattle.onenand_transfer.specs.Transfers.{page_of, page_word}
 use Rattle.onenand_rows.specs.declared.Way.{Way}
 use Rattle.onenand_rows.specs.declared.Way.TheVariants.{Load, Program}
+
+-- where word i of a transfer stands in the array
+abbrev pub location_of : Transfer → ℕ → Location
+location_of t i = record { block = t.block; page = page_of t.page; word = page_word t.part t.page i }
 
 -- it goes well
 abbrev pub moved_well : Meaning → ℕ → ℕ → ℕ → Way → Bool

@@ -3,7 +3,7 @@ ghost use Rattle.std.specs.Prelude.{◌≡◌};
 ghost use Rattle.onenand_rules.specs.Resets.{boot_words};
 ghost use Rattle.onenand_rules.specs.Ticks.{blank};
 
-use flash::{Array, BLANK, PAGE_WORDS};
+use flash::{Array, BLANK, Location, PAGE_WORDS};
 
 // The boot load: both sectors of block 0, page 0.
 pub(crate) fn boot_words<D: Array>(array: &mut D) -> [u16; PAGE_WORDS]
@@ -11,19 +11,25 @@ pub(crate) fn boot_words<D: Array>(array: &mut D) -> [u16; PAGE_WORDS]
     ensures same { D.meaning array.new ≡ D.meaning array.old }
 {
     let mut boot = [BLANK; PAGE_WORDS];
-    for w in 0..PAGE_WORDS {
-        boot[w] = array.read(0, 0, w);
+    for (word, shown) in boot.iter_mut().enumerate() {
+        *shown = array.read(Location {
+            block: 0,
+            page: 0,
+            word,
+        });
     }
     boot
 }
 
 // Whether every word of a page is blank.
+#[tactic(auto, using(crate::proofs::Scans::blank_none, crate::proofs::Scans::blank_more, crate::proofs::Scans::not_blank))]
 pub(crate) fn is_blank<D: Array>(array: &mut D, block: usize, page: usize) -> bool
     ensures value { result ≡ blank (D.meaning array.old) block page 528 }
     ensures same { D.meaning array.new ≡ D.meaning array.old }
 {
-    for w in 0..PAGE_WORDS {
-        if array.read(block, page, w) != BLANK {
+    // Stays: the closure of an `all` would hold the array, and no clause of `all` says how its closure is left.
+    for word in 0..PAGE_WORDS {
+        if array.read(Location { block, page, word }) != BLANK {
             return false;
         }
     }

@@ -1,11 +1,18 @@
 // Transfers between a page and DataRAM: which words move, in which order, and which sectors are taken meanwhile.
 #![tactic(auto)]
 
-ghost use Rattle.std.specs.Prelude.{◌≡◌, ℕ, ◌^◌, ◌<◌, ◌≤◌};
-ghost use Rattle.onenand_transfer.specs.Transfers.{size, words as word_count, counted, sector_word, buffer_sector, page_word, buffer_word, sector_of, chosen};
+ghost use Rattle.std.specs.Prelude.{◌≡◌, ℕ, ◌/◌, ◌%◌, ◌^◌, ◌<◌, ◌≤◌};
+ghost use Rattle.onenand_transfer.specs.Transfers.{words as word_count, counted, sector_word, buffer_sector, page_word, buffer_word, sector_of, chosen};
+
+// Words of a sector: main words, then spare words.
+const MAIN: usize = 256;
+
+const SPARE: usize = 8;
+
+const SECTOR: usize = MAIN + SPARE;
 
 // What moves of a sector.
-#[derive(Clone, Copy)]
+#[derive(Clone, Copy, PartialEq, Eq, Debug)]
 pub enum Part {
     // 256 main words, then 8 spare words.
     Whole,
@@ -14,7 +21,7 @@ pub enum Part {
 }
 
 // A transfer, by the registers that it took: F100h, F107h and F200h, or F102h, F103h and F200h.
-#[derive(Clone, Copy)]
+#[derive(Clone, Copy, PartialEq, Eq, Debug)]
 pub struct Transfer {
     pub block: u16,
     // The page and its first sector, as the register has them.
@@ -25,15 +32,15 @@ pub struct Transfer {
 }
 
 impl Part {
-    // Word i that moves, counted over whole sectors.
-    fn count(self, i: u16) -> usize
-        ensures value { result ≡ counted self i }
-        ensures low { result < 2 ^ 32 }
+    // Word i that moves: which of the sectors it is of, the first or the second, and which word of it.
+    fn sector_and_word(self, i: u16) -> (usize, usize)
+        ensures value { result ≡ (counted self i / 264, counted self i % 264) }
+        ensures low { (result.0 < 2 ^ 16) × (result.1 < 264) }
     {
         let i = i as usize;
         match self {
-            Part::Whole => i,
-            Part::Spare => 264 * (i / 8) + (256 + i % 8),
+            Part::Whole => (i / SECTOR, i % SECTOR),
+            Part::Spare => (i / SPARE, MAIN + i % SPARE),
         }
     }
 }
@@ -44,21 +51,11 @@ fn sector_word(n: usize, s: usize, o: usize) -> usize
     ensures value { result ≡ sector_word n s o }
     ensures low { result < 2 ^ 16 }
 {
-    if o < 256 {
-        256 * s + o
+    if o < MAIN {
+        MAIN * s + o
     } else {
-        256 * n + (8 * s + (o - 256))
+        MAIN * n + (SPARE * s + (o - MAIN))
     }
-}
-
-// The sector of DataRAM that a transfer with this F200h uses first (0) or second (1).
-fn buffer_sector(f200: u16, j: usize) -> usize
-    requires { j < 2 ^ 32 }
-    ensures value { result ≡ buffer_sector f200 j }
-    ensures low { result < 4 }
-{
-    let f = f200 as usize;
-    2 * (f / 1024 % 2) + (f / 256 % 2 + j) % 2
 }
 
 // The sector that a DataRAM word lies in.
@@ -66,78 +63,64 @@ fn sector_of(x: u16) -> usize
     ensures { result ≡ sector_of x }
 {
     let x = x as usize;
-    if x < 1024 { x / 256 } else { (x - 1024) / 8 }
-}
-
-// How many words move.
-fn size_of(part: Part, f200: u16) -> u16
-    ensures value { result ≡ size part f200 }
-    ensures some { 0 < result }
-    ensures few { result ≤ 528 }
-{
-    let sectors = 2 - f200 % 2;
-    match part {
-        Part::Whole => 264 * sectors,
-        Part::Spare => 8 * sectors,
+    if x < 4 * MAIN {
+        x / MAIN
+    } else {
+        (x - 4 * MAIN) / SPARE
     }
-}
-
-// Where word i that moves stands in its page.
-fn in_page(part: Part, f107: u16, i: u16) -> usize
-    ensures value { result ≡ page_word part f107 i }
-    ensures low { result < 2 ^ 16 }
-{
-    let c = part.count(i);
-    sector_word(2, (f107 as usize % 2 + c / 264) % 2, c % 264)
-}
-
-// Where it stands in DataRAM.
-fn in_buffer(part: Part, f200: u16, i: u16) -> usize
-    ensures value { result ≡ buffer_word part f200 i }
-    ensures low { result < 2 ^ 16 }
-{
-    let c = part.count(i);
-    sector_word(4, buffer_sector(f200, c / 264), c % 264)
-}
-
-// Whether a DataRAM word lies in a sector that F200h chooses.
-fn is_chosen(f200: u16, x: u16) -> bool
-    ensures { result ≡ chosen f200 x }
-{
-    let s = sector_of(x);
-    s == buffer_sector(f200, 0) || f200 % 2 == 0 && s == buffer_sector(f200, 1)
 }
 
 impl Transfer {
     // How many words move.
+    #[tactic(auto, unfolding(crate::specs::Transfers::size))]
     pub fn words(self) -> u16
         ensures value { result ≡ word_count self }
         ensures some { 0 < result }
         ensures few { result ≤ 528 }
     {
-        size_of(self.part, self.buffer)
+        let sectors = 2 - self.buffer % 2;
+        match self.part {
+            Part::Whole => SECTOR as u16 * sectors,
+            Part::Spare => SPARE as u16 * sectors,
+        }
     }
 
     // Where word i that moves stands in its page.
+    #[tactic(auto, unfolding(crate::specs::Transfers::page_word))]
     pub fn page_word(self, i: u16) -> usize
         ensures value { result ≡ page_word self.part self.page i }
         ensures low { result < 2 ^ 16 }
     {
-        in_page(self.part, self.page, i)
+        let (j, o) = self.part.sector_and_word(i);
+        sector_word(2, (self.page as usize % 2 + j) % 2, o)
     }
 
     // Where it stands in DataRAM.
+    #[tactic(auto, unfolding(crate::specs::Transfers::buffer_word))]
     pub fn buffer_word(self, i: u16) -> usize
         ensures value { result ≡ buffer_word self.part self.buffer i }
         ensures low { result < 2 ^ 16 }
     {
-        in_buffer(self.part, self.buffer, i)
+        let (j, o) = self.part.sector_and_word(i);
+        sector_word(4, self.buffer_sector(j), o)
+    }
+
+    // The sector of DataRAM that is used first (0) or second (1).
+    fn buffer_sector(self, j: usize) -> usize
+        requires { j < 2 ^ 32 }
+        ensures value { result ≡ buffer_sector self.buffer j }
+        ensures low { result < 4 }
+    {
+        let f = self.buffer as usize;
+        2 * (f / 1024 % 2) + (f / 256 % 2 + j) % 2
     }
 
     // Whether a DataRAM word lies in a sector of the transfer, which is taken while it runs.
+    #[tactic(auto, unfolding(crate::specs::Transfers::chosen))]
     pub fn takes(self, x: u16) -> bool
         ensures { result ≡ chosen self.buffer x }
     {
-        is_chosen(self.buffer, x)
+        let s = sector_of(x);
+        s == self.buffer_sector(0) || self.buffer % 2 == 0 && s == self.buffer_sector(1)
     }
 }

@@ -3,13 +3,12 @@ ghost use Rattle.std.specs.Prelude.{◌≡◌, ◌++◌, Some, string_bytes, OnO
 ghost use Rattle.script_entries.specs.Texts.{text, line_of};
 
 use crate::faults::Code;
-use crate::words::Hex;
 use script_forms::Place;
 use std::alloc::AllocError;
 use std::fmt;
 
 // What one line of a transcript says.
-#[derive(Clone, Copy)]
+#[derive(Clone, Copy, PartialEq, Eq, Debug)]
 pub enum Entry {
     // A read's address, and the word that it answered.
     Word(u16, u16),
@@ -26,29 +25,17 @@ pub enum Entry {
 impl fmt::Display for Entry {
     ghost output = { λ x. Some (text x) };
 
+    #[tactic(auto, using(crate::proofs::Hex::hex_word))]
     fn fmt<W: fmt::Write>(&self, f: &mut fmt::Formatter<W>) -> fmt::Result {
-        match self {
-            Entry::Word(address, word) => {
-                let a = Hex { word: *address };
-                let w = Hex { word: *word };
-                write!(f, "(read ({a} {w}))")
-            }
-            Entry::Written(address, word) => {
-                let a = Hex { word: *address };
-                let w = Hex { word: *word };
-                write!(f, "(write ({a} {w}))")
-            }
-            Entry::Ticked(count) => {
-                let n = Hex { word: *count };
-                write!(f, "(tick ({n}))")
-            }
+        match *self {
+            Entry::Word(address, word) => write!(f, "(read ({address:04X} {word:04X}))"),
+            Entry::Written(address, word) => write!(f, "(write ({address:04X} {word:04X}))"),
+            Entry::Ticked(count) => write!(f, "(tick ({count:04X}))"),
             Entry::Warm => write!(f, "(warm)"),
             Entry::Cold => write!(f, "(cold)"),
             Entry::Refused(code, place) => {
-                let layer = code.layer;
-                let number = code.number;
-                let line = place.line;
-                let column = place.column;
+                let Code { layer, number } = code;
+                let Place { line, column } = place;
                 write!(f, "(refused ({layer} {number} {line} {column}))")
             }
         }
@@ -59,8 +46,5 @@ impl fmt::Display for Entry {
 pub fn add_entry(out: &mut String, entry: Entry) -> Result<(), AllocError>
     ensures { OnOk result (string_bytes out.new ≡ string_bytes out.old ++ line_of entry) }
 {
-    match writeln!(out, "{entry}") {
-        Ok(()) => Ok(()),
-        Err(_) => Err(AllocError),
-    }
+    writeln!(out, "{entry}")
 }

@@ -18,14 +18,14 @@ pub enum Fault {
 }
 
 // Where a fault comes from.
-#[derive(Clone, Copy)]
+#[derive(Clone, Copy, PartialEq, Eq, Debug)]
 pub enum Layer {
     Chip,
     Script,
 }
 
 // What is shown of a fault.
-#[derive(Clone, Copy)]
+#[derive(Clone, Copy, PartialEq, Eq, Debug)]
 pub struct Code {
     pub layer: Layer,
     pub number: u8,

@@ -3,7 +3,6 @@
 
 mod entries;
 mod faults;
-mod words;
 
 pub use entries::{Entry, add_entry};
 pub use faults::{Code, Fault, Layer};

@@ -1,71 +1,30 @@
--- Which of the five kinds a line is of: the choice that the grammar makes, over five tests.
-use Rattle.std.proofs.Common.{◌≡◌, ℕ, Bool, true, false, cond, ◌&&◌, ◌⊎◌, Ok, Err, Result, refl, ap, subst, inl, inr, arith}
-use Rattle.script_forms.specs.Grammar.{Asked}
+-- The form of a line, by the five tests.
+use Rattle.std.proofs.Common.{◌≡◌, ℕ, ◌+◌, true, false, List, Ok, Err, Result, refl}
+use Rattle.std.proofs.lemmas.Bool.{cond_both}
+use Rattle.script_forms.specs.Shapes.{read_shape, write_shape, tick_shape, warm_shape, cold_shape, has_shape, begun}
+use Rattle.script_forms.specs.Grammar.{Asked, read, write, tick, warm, cold, number_at, form_of}
+use Rattle.script_forms.specs.Laws.{IsForm}
 
-pub both : (a b : Bool) → a ≡ true → b ≡ true → (a && b) ≡ true
-both true true p q = refl
-both true false p q = q
-both false b p q = p
+-- no test holds
+pub record NoShape (line : List ℕ) : Type 0 where
+  pub read : has_shape read_shape line ≡ false
+  pub write : has_shape write_shape line ≡ false
+  pub tick : has_shape tick_shape line ≡ false
+  pub warm : has_shape warm_shape line ≡ false
+  pub cold : has_shape cold_shape line ≡ false
 
-pub first_of : (a b : Bool) → (a && b) ≡ true → a ≡ true
-first_of true b p = refl
-first_of false b p = p
+-- what holds of whatever the tests lead to holds of the form
+pub form_by : (P : Result Asked ℕ → Type 0) (line : List ℕ) →
+    (has_shape read_shape line ≡ true → P (Ok (read (number_at line 7)))) →
+    (has_shape write_shape line ≡ true → P (Ok (write (number_at line 8) (number_at line 13)))) →
+    (has_shape tick_shape line ≡ true → P (Ok (tick (number_at line 7)))) →
+    (has_shape warm_shape line ≡ true → P (Ok warm)) →
+    (has_shape cold_shape line ≡ true → P (Ok cold)) →
+    (NoShape line → P (Err (begun line + 1))) → P (form_of line)
+form_by P line r w t m c none =
+    cond_both _ _ _ P r (λ no_r. cond_both _ _ _ P w (λ no_w. cond_both _ _ _ P t (λ no_t. cond_both _ _ _ P m (λ no_m. cond_both _ _ _ P c (λ no_c.
+    none (record { read = no_r; write = no_w; tick = no_t; warm = no_m; cold = no_c }))))))
 
-pub second_of : (a b : Bool) → (a && b) ≡ true → b ≡ true
-second_of true b p = p
-second_of false true p = refl
-second_of false false p = p
-
--- the first of five tests that holds decides
-abbrev pub chain : Bool → Bool → Bool → Bool → Bool → Asked → Asked → Asked → Asked → Asked → ℕ → Result Asked ℕ
-chain r w t m c fr fw ft fm fc k = cond r (Ok fr) (cond w (Ok fw) (cond t (Ok ft) (cond m (Ok fm) (cond c (Ok fc) (Err k)))))
-
--- one of them holds
-abbrev pub Any : Bool → Bool → Bool → Bool → Bool → Type 0
-Any r w t m c = (r ≡ true) ⊎ ((w ≡ true) ⊎ ((t ≡ true) ⊎ ((m ≡ true) ⊎ (c ≡ true))))
-
--- then something is asked
-pub some : (r w t m c : Bool) (fr fw ft fm fc : Asked) (k : ℕ) → Any r w t m c → (f : Asked) × (chain r w t m c fr fw ft fm fc k ≡ Ok f)
-some true w t m c fr fw ft fm fc k h = (fr, refl)
-some false true t m c fr fw ft fm fc k h = (fw, refl)
-some false false true m c fr fw ft fm fc k h = (ft, refl)
-some false false false true c fr fw ft fm fc k h = (fm, refl)
-some false false false false true fr fw ft fm fc k h = (fc, refl)
-some false false false false false fr fw ft fm fc k h = absurd (no h)
-  where
-    clash : false ≡ true → ⊥
-    clash e = let z : ◌≡◌ {A = ℕ} 0 1 = ap (λ b. cond b 1 0) e in omega arith
-
-    no : Any false false false false false → ⊥
-    no (inl e) = clash e
-    no (inr (inl e)) = clash e
-    no (inr (inr (inl e))) = clash e
-    no (inr (inr (inr (inl e)))) = clash e
-    no (inr (inr (inr (inr e)))) = clash e
-
--- and only then
-pub which : (r w t m c : Bool) (fr fw ft fm fc f : Asked) (k : ℕ) → chain r w t m c fr fw ft fm fc k ≡ Ok f → Any r w t m c
-which true w t m c fr fw ft fm fc f k h = inl refl
-which false true t m c fr fw ft fm fc f k h = inr (inl refl)
-which false false true m c fr fw ft fm fc f k h = inr (inr (inl refl))
-which false false false true c fr fw ft fm fc f k h = inr (inr (inr (inl refl)))
-which false false false false true fr fw ft fm fc f k h = inr (inr (inr (inr refl)))
-which false false false false false fr fw ft fm fc f k h = let z : ◌≡◌ {A = ℕ} 0 1 = cc in absurd (omega arith)
-
--- else it is the column
-pub refuses : (r w t m c : Bool) (fr fw ft fm fc : Asked) (k j : ℕ) → chain r w t m c fr fw ft fm fc k ≡ Err j → j ≡ k
-refuses true w t m c fr fw ft fm fc k j h = cc
-refuses false true t m c fr fw ft fm fc k j h = cc
-refuses false false true m c fr fw ft fm fc k j h = cc
-refuses false false false true c fr fw ft fm fc k j h = cc
-refuses false false false false true fr fw ft fm fc k j h = cc
-refuses false false false false false fr fw ft fm fc k j h = cc
-
--- what holds of whatever the tests lead to holds of what is asked
-pub pick : (P : Asked → Type 0) (r w t m c : Bool) (fr fw ft fm fc f : Asked) (k : ℕ) → (r ≡ true → P fr) → (w ≡ true → P fw) → (t ≡ true → P ft) → (m ≡ true → P fm) → (c ≡ true → P fc) → chain r w t m c fr fw ft fm fc k ≡ Ok f → P f
-pick P true w t m c fr fw ft fm fc f k hr hw ht hm hc e = let q : fr ≡ f = cc in subst P q (hr refl)
-pick P false true t m c fr fw ft fm fc f k hr hw ht hm hc e = let q : fw ≡ f = cc in subst P q (hw refl)
-pick P false false true m c fr fw ft fm fc f k hr hw ht hm hc e = let q : ft ≡ f = cc in subst P q (ht refl)
-pick P false false false true c fr fw ft fm fc f k hr hw ht hm hc e = let q : fm ≡ f = cc in subst P q (hm refl)
-pick P false false false false true fr fw ft fm fc f k hr hw ht hm hc e = let q : fc ≡ f = cc in subst P q (hc refl)
-pick P false false false false false fr fw ft fm fc f k hr hw ht hm hc e = let z : ◌≡◌ {A = ℕ} 0 1 = cc in absurd (omega arith)
+-- a line of some shape is a form
+pub some_form : (line : List ℕ) → (NoShape line → ⊥) → IsForm line
+some_form line some = form_by (λ r. (f : Asked) × (r ≡ Ok f)) line (λ _. (_, refl)) (λ _. (_, refl)) (λ _. (_, refl)) (λ _. (_, refl)) (λ _. (_, refl)) (λ none. absurd (some none))

@@ -1,5 +1,6 @@
 -- A script's lines, of the script.
-use Rattle.std.proofs.Common.{◌≡◌, ℕ, Bool, true, false, cond, eqb, ◌⊎◌, List, [], ◌∷◌, ◌++◌, sym, refl, ap, inl, inr, arith, eqb-true}
+use Rattle.std.proofs.Common.{◌≡◌, ℕ, false, eqb, ◌⊎◌, List, [], ◌∷◌, ◌++◌, sym, refl, ap, inl, inr, arith, eqb-true}
+use Rattle.std.proofs.lemmas.Bool.{cond_both}
 use Rattle.script_forms.specs.Lines.{onto, lines_of}
 use Rattle.script_forms.specs.Laws.{ended, NoFeeds, LastSome, LinesAreTheScript}
 
@@ -26,8 +27,8 @@ no_feeds b (l ∷ ls) e h = ((e, h.0), h.1)
 
 pub lines_are_the_script : LinesAreTheScript
 lines_are_the_script [] = (tt, inl refl)
-lines_are_the_script (b ∷ bs) = let h = lines_are_the_script bs in by (eqb b 10) refl h.0 h.1
-  where
-    by : (t : Bool) → eqb b 10 ≡ t → NoFeeds (lines_of bs) → Whole bs (lines_of bs) → NoFeeds (cond t ([] ∷ lines_of bs) (onto b (lines_of bs))) × Whole (b ∷ bs) (cond t ([] ∷ lines_of bs) (onto b (lines_of bs)))
-    by true e n w = ((tt, n), fed b bs (lines_of bs) (eqb-true b 10 e) w)
-    by false e n w = (no_feeds b (lines_of bs) e n, joined b bs (lines_of bs) w)
+lines_are_the_script (b ∷ bs) =
+    let h = lines_are_the_script bs in
+    cond_both (eqb b 10) _ _ (λ ls. NoFeeds ls × Whole (b ∷ bs) ls)
+    (λ e. ((tt, h.0), fed b bs (lines_of bs) (eqb-true b 10 e) h.1))
+    (λ e. (no_feeds b (lines_of bs) e h.0, joined b bs (lines_of bs) h.1))

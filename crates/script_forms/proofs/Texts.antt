@@ -1,10 +1,11 @@
 -- A form and its text.
-use Rattle.std.proofs.Common.{◌≡◌, ℕ, suc, ◌+◌, ◌*◌, ◌/◌, ◌%◌, ◌<◌, Bool, true, false, cond, eqb, List, [], ◌∷◌, ◌++◌, length, get_or, take, drop, Ok, codes, sym, refl, ap, ◌∙◌, subst, arith, eqb-true}
+use Rattle.std.proofs.Common.{◌≡◌, ℕ, suc, ◌+◌, ◌*◌, ◌/◌, ◌%◌, ◌<◌, Bool, true, false, cond, eqb, List, [], ◌∷◌, ◌++◌, length, get_or, take, drop, Ok, Err, Result, codes, sym, refl, ap, ◌∙◌, subst, arith, eqb-true}
+use Rattle.std.proofs.lemmas.Bool.{and_parts, cond_both}
 use Rattle.std.proofs.lemmas.Bool.Decides.{nat_tests}
-use Rattle.script_forms.specs.Shapes.{read_shape, write_shape, tick_shape, warm_shape, cold_shape, is_digit, fits, agreed, has_shape, begun}
+use Rattle.script_forms.specs.Shapes.{read_shape, write_shape, tick_shape, warm_shape, cold_shape, is_digit, fits, agreed, has_shape}
 use Rattle.script_forms.specs.Grammar.{Asked, read, write, tick, warm, cold, digit_of, worth, number_at, form_of, digit_for, hex4, spelt}
 use Rattle.script_forms.specs.Laws.{Words, FormIsItsText}
-use Rattle.script_forms.proofs.Choosing.{first_of, second_of, pick}
+use Rattle.script_forms.proofs.Choosing.{form_by}
 
 -- digits and what they are worth
 digit_is : (d : ℕ) → d < 16 → is_digit (digit_for d) ≡ true
@@ -19,21 +20,10 @@ digit_forth b h = grind (arith, nat_tests)
 digit_small : (b : ℕ) → digit_of b < 16
 digit_small b = grind (arith, nat_tests)
 
--- each digit of a word, and the word of its digits
-place0 : (x y z w : ℕ) → x < 16 → y < 16 → z < 16 → w < 16 → (x * 4096 + y * 256 + z * 16 + w) / 4096 ≡ x
-place0 x y z w p q r s = omega arith
-
-place1 : (x y z w : ℕ) → x < 16 → y < 16 → z < 16 → w < 16 → (x * 4096 + y * 256 + z * 16 + w) / 256 % 16 ≡ y
-place1 x y z w p q r s = omega arith
-
-place2 : (x y z w : ℕ) → x < 16 → y < 16 → z < 16 → w < 16 → (x * 4096 + y * 256 + z * 16 + w) / 16 % 16 ≡ z
-place2 x y z w p q r s = omega arith
-
-place3 : (x y z w : ℕ) → x < 16 → y < 16 → z < 16 → w < 16 → (x * 4096 + y * 256 + z * 16 + w) % 16 ≡ w
-place3 x y z w p q r s = omega arith
-
-together : (n : ℕ) → n < 65536 → (n / 4096) * 4096 + (n / 256 % 16) * 256 + (n / 16 % 16) * 16 + n % 16 ≡ n
-together n h = omega arith
+-- the digits of a word that four digits make, and the word again
+places : (x y z w : ℕ) → x < 16 → y < 16 → z < 16 → w < 16 → let n = x * 4096 + y * 256 + z * 16 + w in
+    (n / 4096 ≡ x) × (n / 256 % 16 ≡ y) × (n / 16 % 16 ≡ z) × (n % 16 ≡ w)
+places x y z w p q r s = (omega arith, omega arith, omega arith, omega arith)
 
 worth_small : (bs : List ℕ) → worth bs < 65536
 worth_small bs = omega (arith, digit_small (get_or bs 0 0), digit_small (get_or bs 1 0), digit_small (get_or bs 2 0), digit_small (get_or bs 3 0))
@@ -41,23 +31,16 @@ worth_small bs = omega (arith, digit_small (get_or bs 0 0), digit_small (get_or 
 -- words and their four digits
 worth_hex4 : (n : ℕ) → n < 65536 → worth (hex4 n) ≡ n
 worth_hex4 n h =
-    let p : n / 4096 < 16 = omega arith in
-    let q : n / 256 % 16 < 16 = omega arith in
-    let r : n / 16 % 16 < 16 = omega arith in
-    let s : n % 16 < 16 = omega arith in
-    (λ i. digit_back (n / 4096) p i * 4096 + digit_back (n / 256 % 16) q i * 256 + digit_back (n / 16 % 16) r i * 16 + digit_back (n % 16) s i) ∙ together n h
+    let a = digit_back (n / 4096) (omega arith) in
+    let b = digit_back (n / 256 % 16) (omega arith) in
+    let c = digit_back (n / 16 % 16) (omega arith) in
+    let d = digit_back (n % 16) (omega arith) in
+    omega arith
 
 hex4_worth : (a b c d : ℕ) → is_digit a ≡ true → is_digit b ≡ true → is_digit c ≡ true → is_digit d ≡ true → hex4 (worth (a ∷ b ∷ c ∷ d ∷ [])) ≡ a ∷ b ∷ c ∷ d ∷ []
 hex4_worth a b c d ea eb ec ed =
-    let p = digit_small a in
-    let q = digit_small b in
-    let r = digit_small c in
-    let s = digit_small d in
-    λ i. (ap digit_for (place0 (digit_of a) (digit_of b) (digit_of c) (digit_of d) p q r s) ∙ digit_forth a ea) i
-    ∷ (ap digit_for (place1 (digit_of a) (digit_of b) (digit_of c) (digit_of d) p q r s) ∙ digit_forth b eb) i
-    ∷ (ap digit_for (place2 (digit_of a) (digit_of b) (digit_of c) (digit_of d) p q r s) ∙ digit_forth c ec) i
-    ∷ (ap digit_for (place3 (digit_of a) (digit_of b) (digit_of c) (digit_of d) p q r s) ∙ digit_forth d ed) i
-    ∷ []
+    let n = places (digit_of a) (digit_of b) (digit_of c) (digit_of d) (digit_small a) (digit_small b) (digit_small c) (digit_small d) in
+    λ i. (ap digit_for n.0 ∙ digit_forth a ea) i ∷ (ap digit_for n.1 ∙ digit_forth b eb) i ∷ (ap digit_for n.2 ∙ digit_forth c ec) i ∷ (ap digit_for n.3 ∙ digit_forth d ed) i ∷ []
 
 -- from a form to its text: a text with digits in their places is of its shape
 is_read : (x y z w : ℕ) → is_digit x ≡ true → is_digit y ≡ true → is_digit z ≡ true → is_digit w ≡ true → has_shape read_shape (codes "(read (" ++ (x ∷ y ∷ z ∷ w ∷ codes "))")) ≡ true
@@ -69,23 +52,17 @@ is_tick x y z w p q r s = rw (p, q, r, s)
 is_write : (x y z w x' y' z' w' : ℕ) → is_digit x ≡ true → is_digit y ≡ true → is_digit z ≡ true → is_digit w ≡ true → is_digit x' ≡ true → is_digit y' ≡ true → is_digit z' ≡ true → is_digit w' ≡ true → has_shape write_shape (codes "(write (" ++ (x ∷ y ∷ z ∷ w ∷ 32 ∷ x' ∷ y' ∷ z' ∷ w' ∷ codes "))")) ≡ true
 is_write x y z w x' y' z' w' p q r s p' q' r' s' = rw (p, q, r, s, p', q', r', s')
 
-module _ (n : ℕ) (h : n < 65536) where
-  d0 : is_digit (digit_for (n / 4096)) ≡ true
-  d0 = digit_is (n / 4096) (omega arith)
-
-  d1 : is_digit (digit_for (n / 256 % 16)) ≡ true
-  d1 = digit_is (n / 256 % 16) (omega arith)
-
-  d2 : is_digit (digit_for (n / 16 % 16)) ≡ true
-  d2 = digit_is (n / 16 % 16) (omega arith)
-
-  d3 : is_digit (digit_for (n % 16)) ≡ true
-  d3 = digit_is (n % 16) (omega arith)
+-- the digits of a word are digits
+are_digits : (n : ℕ) → n < 65536 → (is_digit (digit_for (n / 4096)) ≡ true) × (is_digit (digit_for (n / 256 % 16)) ≡ true) × (is_digit (digit_for (n / 16 % 16)) ≡ true) × (is_digit (digit_for (n % 16)) ≡ true)
+are_digits n h = (digit_is (n / 4096) (omega arith), digit_is (n / 256 % 16) (omega arith), digit_is (n / 16 % 16) (omega arith), digit_is (n % 16) (omega arith))
 
 spelt_reads : (f : Asked) → Words f → form_of (spelt f) ≡ Ok f
-spelt_reads (read a) h = rw (is_read _ _ _ _ (d0 a h) (d1 a h) (d2 a h) (d3 a h)) (ap (λ n. Ok (read n)) (worth_hex4 a h))
-spelt_reads (write a w) h = rw (is_write _ _ _ _ _ _ _ _ (d0 a h.0) (d1 a h.0) (d2 a h.0) (d3 a h.0) (d0 w h.1) (d1 w h.1) (d2 w h.1) (d3 w h.1)) (λ i. Ok (write (worth_hex4 a h.0 i) (worth_hex4 w h.1 i)))
-spelt_reads (tick n) h = rw (is_tick _ _ _ _ (d0 n h) (d1 n h) (d2 n h) (d3 n h)) (ap (λ k. Ok (tick k)) (worth_hex4 n h))
+spelt_reads (read a) h = let d = are_digits a h in rw (is_read _ _ _ _ d.0 d.1 d.2 d.3) (ap (λ n. Ok (read n)) (worth_hex4 a h))
+spelt_reads (write a w) h =
+    let d = are_digits a h.0 in
+    let e = are_digits w h.1 in
+    rw (is_write _ _ _ _ _ _ _ _ d.0 d.1 d.2 d.3 e.0 e.1 e.2 e.3) (λ i. Ok (write (worth_hex4 a h.0 i) (worth_hex4 w h.1 i)))
+spelt_reads (tick n) h = let d = are_digits n h in rw (is_tick _ _ _ _ d.0 d.1 d.2 d.3) (ap (λ k. Ok (tick k)) (worth_hex4 n h))
 spelt_reads warm h = refl
 spelt_reads cold h = refl
 
@@ -100,14 +77,11 @@ matches : (ss bs : List ℕ) → length bs ≡ length ss → agreed ss bs ≡ le
 matches [] [] l e = tt
 matches [] (b ∷ bs) l e = omega arith
 matches (s ∷ ss) [] l e = omega arith
-matches (s ∷ ss) (b ∷ bs) l e = by (fits s b) refl e (matches ss bs (omega arith))
-  where
-    by : (t : Bool) → fits s b ≡ t → cond t (suc (agreed ss bs)) 0 ≡ suc (length ss) → (agreed ss bs ≡ length ss → Matches ss bs) → (fits s b ≡ true) × Matches ss bs
-    by true p h k = (p, k (omega arith))
-    by false p h k = absurd (omega arith)
+matches (s ∷ ss) (b ∷ bs) l e =
+    cond_both (fits s b) _ _ (λ n. n ≡ suc (length ss) → Matches (s ∷ ss) (b ∷ bs)) (λ p h. (p, matches ss bs (omega arith) (omega arith))) (λ _ h. absurd (omega arith)) e
 
 is_matches : (ss bs : List ℕ) → has_shape ss bs ≡ true → Matches ss bs
-is_matches ss bs e = matches ss bs (eqb-true _ _ (first_of _ _ e)) (eqb-true _ _ (second_of _ _ e))
+is_matches ss bs e = let p = and_parts _ _ e in matches ss bs (eqb-true _ _ p.0) (eqb-true _ _ p.1)
 
 -- a shape without digits is its own text
 abbrev plain : List ℕ → Bool
@@ -115,52 +89,12 @@ plain [] = true
 plain (s ∷ ss) = cond (eqb s 35) false (plain ss)
 
 plain_rest : (s : ℕ) (p : Bool) → cond (eqb s 35) false p ≡ true → (eqb s 35 ≡ false) × (p ≡ true)
-plain_rest s p h = by (eqb s 35) h
-  where
-    by : (t : Bool) → cond t false p ≡ true → (t ≡ false) × (p ≡ true)
-    by true h = let z : ◌≡◌ {A = ℕ} 0 1 = ap (λ b. cond b 1 0) h in absurd (omega arith)
-    by false h = (refl, h)
+plain_rest s p h = grind (arith, nat_tests)
 
 same : (s b : ℕ) → eqb s 35 ≡ false → fits s b ≡ true → b ≡ s
-same s b p h = sym (eqb-true s b (sym (ap (λ t. cond t (is_digit b) (eqb s b)) p) ∙ h))
+same s b p h = grind (arith, nat_tests)
 
--- what stands before a digit is the shape's text
-text_of : (t ss line : List ℕ) → plain t ≡ true → Matches (t ++ ss) line → (rest : List ℕ) × (line ≡ t ++ rest) × Matches ss rest
-text_of [] ss line p m = (line, refl, m)
-text_of (s ∷ t) ss [] p m = absurd m
-text_of (s ∷ t) ss (b ∷ bs) p m =
-    let q = plain_rest s (plain t) p in
-    let r = text_of t ss bs q.1 m.1 in
-    let e = same s b q.0 m.0 in
-    (r.0, (λ i. e i ∷ r.1 i), r.2)
-
--- a line that begins with four digits: they are those of their worth
-pub record Digits (ss line : List ℕ) : Type 0 where
-  pub a : ℕ
-  pub b : ℕ
-  pub c : ℕ
-  pub d : ℕ
-  pub rest : List ℕ
-  pub cut : line ≡ a ∷ b ∷ c ∷ d ∷ rest
-  pub back : hex4 (worth (a ∷ b ∷ c ∷ d ∷ [])) ≡ a ∷ b ∷ c ∷ d ∷ []
-  pub more : Matches ss rest
-
-four_of : (ss line : List ℕ) → Matches (35 ∷ 35 ∷ 35 ∷ 35 ∷ ss) line → Digits ss line
-four_of ss [] m = absurd m
-four_of ss (a ∷ []) m = absurd m.1
-four_of ss (a ∷ b ∷ []) m = absurd m.1.1
-four_of ss (a ∷ b ∷ c ∷ []) m = absurd m.1.1.1
-four_of ss (a ∷ b ∷ c ∷ d ∷ rest) m = record {
-  a = a;
-  b = b;
-  c = c;
-  d = d;
-  rest = rest;
-  cut = refl;
-  back = hex4_worth a b c d m.0 m.1.0 m.1.1.0 m.1.1.1.0;
-  more = m.1.1.1.1;
-}
-
+-- a line of a shape that ends with no digits in it is its text
 ends : (t line : List ℕ) → plain t ≡ true → Matches t line → line ≡ t
 ends [] [] p m = refl
 ends [] (b ∷ bs) p m = absurd m
@@ -171,49 +105,52 @@ ends (s ∷ t) (b ∷ bs) p m =
     let r = ends t bs q.1 m.1 in
     λ i. e i ∷ r i
 
+-- of a line of a shape with four digits after some text, the text, and the number that the digits spell
+number_in : (t ss line : List ℕ) → plain t ≡ true → Matches (t ++ (35 ∷ 35 ∷ 35 ∷ 35 ∷ ss)) line →
+    (rest : List ℕ) × (line ≡ t ++ (hex4 (number_at line (length t)) ++ rest)) × Matches ss rest
+number_in [] ss [] p m = absurd m
+number_in [] ss (a ∷ []) p m = absurd m.1
+number_in [] ss (a ∷ b ∷ []) p m = absurd m.1.1
+number_in [] ss (a ∷ b ∷ c ∷ []) p m = absurd m.1.1.1
+number_in [] ss (a ∷ b ∷ c ∷ d ∷ rest) p m = (rest, ap (λ n. n ++ rest) (sym (hex4_worth a b c d m.0 m.1.0 m.1.1.0 m.1.1.1.0)), m.1.1.1.1)
+number_in (s ∷ t) ss [] p m = absurd m
+number_in (s ∷ t) ss (b ∷ bs) p m =
+    let q = plain_rest s (plain t) p in
+    let e = same s b q.0 m.0 in
+    let r = number_in t ss bs q.1 m.1 in
+    (r.0, (λ i. e i ∷ r.1 i), r.2)
+
 -- a line of each shape that has numbers is the text of the form that it asks
 read_line : (line : List ℕ) → Matches read_shape line → line ≡ spelt (read (number_at line 7))
 read_line line m =
-    let t = text_of (codes "(read (") (35 ∷ 35 ∷ 35 ∷ 35 ∷ codes "))") line refl m in
-    let n = four_of (codes "))") t.0 t.2 in
-    let l = ends (codes "))") n.rest refl n.more in
-    let whole : line ≡ codes "(read (" ++ (n.a ∷ n.b ∷ n.c ∷ n.d ∷ codes "))") = t.1 ∙ ap (λ r. codes "(read (" ++ r) (n.cut ∙ ap (λ r. n.a ∷ n.b ∷ n.c ∷ n.d ∷ r) l) in
-    let P : List ℕ → Type 0 = λ k. k ≡ spelt (read (number_at k 7)) in
-    subst P (sym whole) (ap (λ k. codes "(read (" ++ (k ++ codes "))")) (sym n.back))
+    let n = number_in (codes "(read (") (codes "))") line refl m in
+    n.1 ∙ ap (λ r. codes "(read (" ++ (hex4 (number_at line 7) ++ r)) (ends (codes "))") n.0 refl n.2)
 
 tick_line : (line : List ℕ) → Matches tick_shape line → line ≡ spelt (tick (number_at line 7))
 tick_line line m =
-    let t = text_of (codes "(tick (") (35 ∷ 35 ∷ 35 ∷ 35 ∷ codes "))") line refl m in
-    let n = four_of (codes "))") t.0 t.2 in
-    let l = ends (codes "))") n.rest refl n.more in
-    let whole : line ≡ codes "(tick (" ++ (n.a ∷ n.b ∷ n.c ∷ n.d ∷ codes "))") = t.1 ∙ ap (λ r. codes "(tick (" ++ r) (n.cut ∙ ap (λ r. n.a ∷ n.b ∷ n.c ∷ n.d ∷ r) l) in
-    let P : List ℕ → Type 0 = λ k. k ≡ spelt (tick (number_at k 7)) in
-    subst P (sym whole) (ap (λ k. codes "(tick (" ++ (k ++ codes "))")) (sym n.back))
+    let n = number_in (codes "(tick (") (codes "))") line refl m in
+    n.1 ∙ ap (λ r. codes "(tick (" ++ (hex4 (number_at line 7) ++ r)) (ends (codes "))") n.0 refl n.2)
 
 write_line : (line : List ℕ) → Matches write_shape line → line ≡ spelt (write (number_at line 8) (number_at line 13))
 write_line line m =
-    let t = text_of (codes "(write (") (35 ∷ 35 ∷ 35 ∷ 35 ∷ 32 ∷ 35 ∷ 35 ∷ 35 ∷ 35 ∷ codes "))") line refl m in
-    let n = four_of (32 ∷ 35 ∷ 35 ∷ 35 ∷ 35 ∷ codes "))") t.0 t.2 in
-    let u = text_of (32 ∷ []) (35 ∷ 35 ∷ 35 ∷ 35 ∷ codes "))") n.rest refl n.more in
-    let k = four_of (codes "))") u.0 u.2 in
-    let l = ends (codes "))") k.rest refl k.more in
-    let whole : line ≡ codes "(write (" ++ (n.a ∷ n.b ∷ n.c ∷ n.d ∷ 32 ∷ k.a ∷ k.b ∷ k.c ∷ k.d ∷ codes "))") =
-    t.1 ∙ ap (λ r. codes "(write (" ++ r) (n.cut ∙ ap (λ r. n.a ∷ n.b ∷ n.c ∷ n.d ∷ r) (u.1 ∙ ap (λ r. 32 ∷ r) (k.cut ∙ ap (λ r. k.a ∷ k.b ∷ k.c ∷ k.d ∷ r) l))) in
-    let P : List ℕ → Type 0 = λ x. x ≡ spelt (write (number_at x 8) (number_at x 13)) in
-    subst P (sym whole) (λ i. codes "(write (" ++ (sym n.back i ++ (codes " " ++ (sym k.back i ++ codes "))"))))
+    let n = number_in (codes "(write (") (32 ∷ 35 ∷ 35 ∷ 35 ∷ 35 ∷ codes "))") line refl m in
+    let k = number_in (codes " ") (codes "))") n.0 refl n.2 in
+    let second : number_at n.0 1 ≡ number_at line 13 = sym (ap (λ l. number_at l 13) n.1) in
+    n.1 ∙ ap (λ r. codes "(write (" ++ (hex4 (number_at line 8) ++ r)) (k.1 ∙ (λ i. codes " " ++ (hex4 (second i) ++ ends (codes "))") k.0 refl k.2 i)))
 
 -- from a line that is a form to its text
+abbrev IsSpelt : List ℕ → Result Asked ℕ → Type 0
+IsSpelt line (Ok f) = Words f × (line ≡ spelt f)
+IsSpelt line (Err c) = Unit {0}
+
 reads_spelt : (line : List ℕ) (f : Asked) → form_of line ≡ Ok f → Words f × (line ≡ spelt f)
-reads_spelt line f e =
-    let P : Asked → Type 0 = λ g. Words g × (line ≡ spelt g) in
-    pick P (has_shape read_shape line) (has_shape write_shape line) (has_shape tick_shape line) (has_shape warm_shape line) (has_shape cold_shape line)
-    (read (number_at line 7)) (write (number_at line 8) (number_at line 13)) (tick (number_at line 7)) warm cold f (begun line + 1)
+reads_spelt line f e = subst (IsSpelt line) e (form_by (IsSpelt line) line
     (λ h. (worth_small (take 4 (drop 7 line)), read_line line (is_matches read_shape line h)))
     (λ h. ((worth_small (take 4 (drop 8 line)), worth_small (take 4 (drop 13 line))), write_line line (is_matches write_shape line h)))
     (λ h. (worth_small (take 4 (drop 7 line)), tick_line line (is_matches tick_shape line h)))
     (λ h. (tt, ends warm_shape line refl (is_matches warm_shape line h)))
     (λ h. (tt, ends cold_shape line refl (is_matches cold_shape line h)))
-    e
+    (λ _. tt))
 
 pub form_is_its_text : FormIsItsText
 form_is_its_text = (spelt_reads, reads_spelt)

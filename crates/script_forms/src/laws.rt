@@ -2,10 +2,8 @@
 ghost use Rattle.script_forms.specs.Laws.{LinesAreTheScript, FormIsItsText, ColumnIsFirst};
 
 // Stands for the theorem that lines, forms and columns are what the words say, of every script and line.
-pub fn grammar_holds() -> bool
+pub fn grammar_holds()
     ensures lines { LinesAreTheScript }
     ensures text { FormIsItsText }
     ensures column { ColumnIsFirst }
-{
-    true
-}
+{}

@@ -3,7 +3,6 @@
 
 mod forms;
 mod laws;
-mod lines;
 mod numbers;
 mod parts;
 mod reader;

@@ -1,11 +1,18 @@
-// The reader of a script.
+// The reader of a script, which gives it line by line.
+ghost use Rattle.std.specs.Prelude.{◌≡◌, ◌≤◌, length};
+ghost use Rattle.std.specs.List.{before_first, after_first, position_or_len};
+ghost use Rattle.std.specs.Iterator.{item_count};
+ghost use Rattle.script_forms.specs.Lines.{lines_of, is_feed};
+ghost use Rattle.script_forms.specs.Parts.{GivesLine};
+
+use crate::parts::Line;
 use std::marker::Model;
 
 // What has yet to be read of a script, and how many lines have been.
 #[derive(Drop)]
 pub struct Reader<'a> {
-    pub(crate) rest: &'a [u8],
-    pub(crate) lines: usize,
+    rest: &'a [u8],
+    lines: usize,
 }
 
 impl<'a> Model for Reader<'a> {
@@ -17,4 +24,59 @@ impl<'a> Model for Reader<'a> {
     ghost view = { λ r. record { left = lines_of r.rest.now; lines = r.lines } };
 
     ghost invariant = { λ r. r.lines + length r.rest.now < 2 ^ 64 };
+}
+
+// How many bytes a script's first line has, without its line feed.
+fn line_len(script: &[u8]) -> usize
+    ensures value { result ≡ position_or_len is_feed script.now }
+    ensures bound { result ≤ length script.now }
+{
+    script
+        .iter()
+        .position(|b| *b == b'\n')
+        .unwrap_or(script.len())
+}
+
+// A script's first line without its line feed, and what comes after that.
+fn split_line(script: &[u8]) -> (&[u8], &[u8])
+    ensures line { result.0.now ≡ before_first is_feed script.now }
+    ensures rest { result.1.now ≡ after_first is_feed script.now }
+{
+    let end = line_len(script);
+    (&script[..end], script.get(end + 1..).unwrap_or(&[]))
+}
+
+impl<'a> Reader<'a> {
+    // A reader at the script's start.
+    pub fn new(script: &'a [u8]) -> Reader<'a>
+        ensures { result ≡ record { left = lines_of script.now; lines = 0 } }
+    {
+        Reader {
+            rest: script,
+            lines: 0,
+        }
+    }
+}
+
+// The lines with their numbers; at the end nothing, and the reader stays there.
+impl<'a> Iterator for Reader<'a> {
+    type Item = Line<'a>;
+
+    ghost next_gives = { GivesLine };
+
+    ghost remaining = { item_count (λ r. r.left) };
+
+    #[tactic(auto, using(crate::proofs::FirstLine::first_line))]
+    fn next(&mut self) -> Option<Line<'a>> {
+        if self.rest.is_empty() {
+            return None;
+        }
+        let (bytes, rest) = split_line(self.rest);
+        self.rest = rest;
+        self.lines += 1;
+        Some(Line {
+            bytes,
+            number: self.lines,
+        })
+    }
 }

@@ -12,6 +12,8 @@ pub(crate) const WARM: &[u8] = b"(warm)";
 
 pub(crate) const COLD: &[u8] = b"(cold)";
 
+const SHAPES: [&[u8]; 5] = [READ, WRITE, TICK, WARM, COLD];
+
 // Whether a byte is a hexadecimal digit, upper-case.
 fn is_digit(byte: u8) -> bool
     ensures { result ≡ is_digit byte }
@@ -53,7 +55,9 @@ pub(crate) fn begun(line: &[u8]) -> usize
     ensures value { result ≡ begun_bytes line.now }
     ensures bound { result ≤ length line.now }
 {
-    agreement(READ, line).max(agreement(WRITE, line).max(agreement(TICK, line).max(agreement(
-        WARM, line,
-    ).max(agreement(COLD, line)))))
+    SHAPES
+        .iter()
+        .map(|shape| agreement(shape, line))
+        .max()
+        .unwrap_or(0)
 }

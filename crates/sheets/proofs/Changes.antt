@@ -1,19 +1,20 @@
 -- What reads, programs and erases of the caller's lists do to the meaning of a sheet array.
-use Rattle.std.proofs.Common.{◌≡◌, ℕ, zero, suc, ◌+◌, ◌*◌, ◌^◌, ◌<◌, ◌≤◌, Bool, true, false, cond, not, ◌&&◌, eqb, ltb, leb, List, [], ◌∷◌, map, length, get_or, set, sym, refl, ap, ◌∙◌, ap₂, ⊎_elim, arith}
+use Rattle.std.proofs.Common.{◌≡◌, ℕ, zero, suc, ◌+◌, ◌*◌, ◌^◌, ◌<◌, ◌≤◌, Bool, true, false, cond, not, ◌&&◌, eqb, ltb, leb, List, [], ◌∷◌, map, ◌++◌, length, get_or, take, drop, set, Some, sym, refl, ap, ◌∙◌, ap₂, ⊎_elim, arith}
 use mathlib.Core.Path.{fun_ext}
 use lib.Bits.{bit_and}
-use Rattle.std.proofs.lemmas.List.{length-set, length-map, get_or-set_same, get_or-set_other, get_or_default, get_or_past}
+use Rattle.std.proofs.lemmas.List.{length-set, length-map, get_or-set_same, get_or-set_other, set-get_or, get_or_default, get_or_past}
+use Rattle.std.proofs.lemmas.List.Edits.{map_over_more}
 use Rattle.std.proofs.lemmas.Bool.{cond_both, cond-true, cond-false, cases_Bool, cases_eq, cases_lt}
 use Rattle.std.proofs.lemmas.Bool.Decides.{nat_tests}
 use Rattle.flash.specs.Geometry.{max_blocks, page_words, blank_word, bits16}
-use Rattle.flash.specs.Meaning.{word_at, programmable, programmed, after_program, erasable, erased, after_erase}
+use Rattle.flash.specs.Meaning.{programmable, programmed, after_program, erasable, erased, after_erase}
 use Rattle.flash.specs.Runs.{filled}
 use Rattle.flash.proofs.Bits.{and_16}
 use Rattle.flash.proofs.Runs.{length-filled, get_or-filled}
 use Rattle.sheets.specs.declared.Sheet.{Sheet}
 use Rattle.sheets.specs.Pages.{no_sheet, first_of, mark}
 use Rattle.sheets.specs.Checks.{max_sheets}
-use Rattle.sheets.specs.Contents.{blocks, place, sheet_word, sheet_meaning, word_held, written, opened, words_opened, word_stored, sheets_programmed, words_programmed, unmarked, sheets_erased}
+use Rattle.sheets.specs.Contents.{blocks, place, sheet_word, sheet_meaning, written, opened, words_opened, word_stored, seat_of, unmarked, sheets_erased}
 use Rattle.sheets.proofs.Finding.{first_is_of, first_of_one, first_set, first_unmarked}
 
 -- the count goes by how many sheets and words there are
@@ -153,12 +154,30 @@ module _ (n : ℕ) (ss : List Sheet) (ws : List ℕ) (b p w v : ℕ) (small : v 
     dead_block = λ b'. false;
   }
 
-pub programmed_is : (n : ℕ) (ss : List Sheet) (ws : List ℕ) (b p w v : ℕ) → v < 2 ^ 16
-    → sheet_meaning n (sheets_programmed n ss ws b p w) (words_programmed n ss ws b p w v) ≡ after_program (sheet_meaning n ss ws) b p w v
-programmed_is n ss ws b p w v small = ⊎_elim
-    (λ (t : programmable (sheet_meaning n ss ws) b p w ≡ true). ap₂ (sheet_meaning n) (cond-true _ _ _ t) (cond-true _ _ _ t) ∙ program_done n ss ws b p w v small t ∙ sym (cond-true _ _ _ t))
-    (λ (t : programmable (sheet_meaning n ss ws) b p w ≡ false). ap₂ (sheet_meaning n) (cond-false _ _ _ t) (cond-false _ _ _ t) ∙ sym (cond-false _ _ _ t))
-    (cases_Bool (programmable (sheet_meaning n ss ws) b p w))
+-- the list after sheet i was opened
+opened_by : (ss : List Sheet) (i : ℕ) (s : Sheet) → s ≡ cond (eqb (mark ss i) 0) (written (get_or ss i no_sheet)) (get_or ss i no_sheet) → set ss i s ≡ opened ss i
+opened_by ss i s e = ap (set ss i) e ∙ ⊎_elim
+    (λ (t : eqb (mark ss i) 0 ≡ true). ap (set ss i) (cond-true _ _ _ t) ∙ sym (cond-true _ _ _ t))
+    (λ (t : eqb (mark ss i) 0 ≡ false). ap (set ss i) (cond-false _ _ _ t) ∙ set-get_or ss i no_sheet ∙ sym (cond-false _ _ _ t))
+    (cases_Bool (eqb (mark ss i) 0))
+
+pub programmed_is : (n : ℕ) (ss : List Sheet) (ws xs : List ℕ) (b p w v i : ℕ) (s : Sheet) → seat_of n ss ws b p w ≡ Some i
+    → s ≡ cond (eqb (mark ss i) 0) (written (get_or ss i no_sheet)) (get_or ss i no_sheet) → xs ≡ word_stored (eqb (mark ss i) 0) ws i w v → v < 2 ^ 16
+    → sheet_meaning n (set ss i s) xs ≡ after_program (sheet_meaning n ss ws) b p w v
+programmed_is n ss ws xs b p w v i s e es ew small =
+    let there : (programmable (sheet_meaning n ss ws) b p w ≡ true) × (first_of b p ss ≡ i) = ⊎_elim
+    (λ (t : programmable (sheet_meaning n ss ws) b p w ≡ true). let is = sym (cond-true _ _ _ t) ∙ e in (t, cc))
+    (λ (t : programmable (sheet_meaning n ss ws) b p w ≡ false). let is = sym (cond-false _ _ _ t) ∙ e in cc)
+    (cases_Bool (programmable (sheet_meaning n ss ws) b p w)) in
+    ap₂ (sheet_meaning n) (opened_by ss i s es) ew
+    ∙ ap (λ j. sheet_meaning n (opened ss j) (word_stored (eqb (mark ss j) 0) ws j w v)) (sym there.1)
+    ∙ program_done n ss ws b p w v small there.0
+    ∙ sym (cond-true _ _ _ there.0)
+
+-- one mark more is cleared
+pub unmark_more : (b i : ℕ) (xs ys : List Sheet) (s : Sheet) → ys ≡ map (unmarked b) (take i xs) ++ drop i xs → i < length xs → length ys ≡ length xs → s ≡ unmarked b (get_or ys i no_sheet)
+    → set ys i s ≡ map (unmarked b) (take (i + 1) xs) ++ drop (i + 1) xs
+unmark_more b i xs ys s e h same f = ap (set ys i) f ∙ map_over_more (unmarked b) xs ys i (get_or ys i no_sheet) h e (get_or_default ys i no_sheet (get_or ys i no_sheet) (omega arith))
 
 mark_unmarked : (b : ℕ) (ss : List Sheet) (j : ℕ) → mark (map (unmarked b) ss) j ≡ cond (eqb (get_or ss j no_sheet).block b) 0 (mark ss j)
 mark_unmarked b [] j = grind (arith, nat_tests)
@@ -186,30 +205,8 @@ module _ (n : ℕ) (ss : List Sheet) (ws : List ℕ) (b : ℕ) where
     dead_block = λ b'. false;
   }
 
-pub erased_is : (n : ℕ) (ss : List Sheet) (ws : List ℕ) (b : ℕ) → sheet_meaning n (sheets_erased n ss ws b) ws ≡ after_erase (sheet_meaning n ss ws) b
-erased_is n ss ws b = ⊎_elim
+pub erased_is : (n : ℕ) (ss ms : List Sheet) (ws : List ℕ) (b : ℕ) → ms ≡ sheets_erased n ss ws b → sheet_meaning n ms ws ≡ after_erase (sheet_meaning n ss ws) b
+erased_is n ss ms ws b e = ap (λ xs. sheet_meaning n xs ws) e ∙ ⊎_elim
     (λ (t : erasable (sheet_meaning n ss ws) b ≡ true). ap (λ xs. sheet_meaning n xs ws) (cond-true _ _ _ t) ∙ erase_done n ss ws b ∙ sym (cond-true _ _ _ t))
     (λ (t : erasable (sheet_meaning n ss ws) b ≡ false). ap (λ xs. sheet_meaning n xs ws) (cond-false _ _ _ t) ∙ sym (cond-false _ _ _ t))
     (cases_Bool (erasable (sheet_meaning n ss ws) b))
-
-pub held_is : (n : ℕ) (ss : List Sheet) (ws : List ℕ) (b p w : ℕ) → word_held n ss ws b p w < 2 ^ 16 → word_held n ss ws b p w ≡ word_at (sheet_meaning n ss ws) b p w
-held_is n ss ws b p w small =
-    let k = first_of b p ss in
-    ⊎_elim
-    (λ (t : programmable (sheet_meaning n ss ws) b p w ≡ true).
-    let room = words_in n ss ws b p w t in
-    let low = word_low n ss ws b p w t in
-    let e = ap bits16 (get_or_default ws (place k w) 0 blank_word (omega arith)) in
-    let held = cond-true (programmable (sheet_meaning n ss ws) b p w) (cond (eqb (mark ss k) 0) blank_word (get_or ws (place k w) 0)) blank_word t in
-    ⊎_elim
-    (λ (z : eqb (mark ss k) 0 ≡ true). grind (arith, nat_tests))
-    (λ (z : eqb (mark ss k) 0 ≡ false).
-    let is = held ∙ cond-false (eqb (mark ss k) 0) blank_word (get_or ws (place k w) 0) z in
-    let whole : bits16 (get_or ws (place k w) 0) ≡ get_or ws (place k w) 0 = omega arith in
-    grind (arith, nat_tests))
-    (cases_Bool (eqb (mark ss k) 0)))
-    (λ (t : programmable (sheet_meaning n ss ws) b p w ≡ false). ⊎_elim
-    (λ (l : k < length ss). grind (arith, nat_tests))
-    (λ (l : length ss ≤ k). let none = ap (λ s. s.written) (get_or_past ss k no_sheet l) in grind (arith, nat_tests))
-    (cases_lt k (length ss)))
-    (cases_Bool (programmable (sheet_meaning n ss ws) b p w))

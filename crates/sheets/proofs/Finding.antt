@@ -1,16 +1,23 @@
 -- The first sheet of a page: a walk finds it, it is of that page, and marks do not move it.
-use Rattle.std.proofs.Common.{◌≡◌, ℕ, zero, suc, ◌+◌, ◌<◌, true, false, cond, List, [], ◌∷◌, map, length, get_or, drop, set, sym, refl, ap, subst, ⊎_elim, arith}
-use Rattle.std.proofs.lemmas.List.{at_drop_more}
+use Rattle.std.proofs.Common.{◌≡◌, ℕ, zero, suc, ◌<◌, true, false, cond, ltb, Some, None, List, [], ◌∷◌, map, length, get_or, set, sym, refl, ap, subst, ⊎_elim, arith}
+use Rattle.std.specs.List.{position_or_len, position}
 use Rattle.std.proofs.lemmas.Bool.{cond-true, cond-false, cases_Bool}
 use Rattle.std.proofs.lemmas.Bool.Decides.{nat_tests}
 use Rattle.sheets.specs.declared.Sheet.{Sheet}
-use Rattle.sheets.specs.Pages.{no_sheet, is_of, first_of}
+use Rattle.sheets.specs.Pages.{no_sheet, is_of, first_of, sheet_of}
 use Rattle.sheets.specs.Contents.{unmarked}
 
--- what is left of a list begins with the sheet that the walk has come to
-pub first_step : (ss : List Sheet) (k b p : ℕ) → k < length ss → first_of b p (drop k ss) ≡ cond (is_of b p (get_or ss k no_sheet)) 0 (suc (first_of b p (drop (k + 1) ss)))
+-- the place of the first sheet of a page is where the library's search stops
+first_is_position : (b p : ℕ) (ss : List Sheet) → position_or_len (is_of b p) ss ≡ first_of b p ss
 unfolding first_of
-first_step ss k b p within = at_drop_more (first_of b p) ss k no_sheet within
+first_is_position b p [] = refl
+first_is_position b p (s ∷ ss) = ⊎_elim
+    (λ (e : is_of b p s ≡ true). grind (arith, nat_tests))
+    (λ (e : is_of b p s ≡ false). let more = first_is_position b p ss in grind (arith, nat_tests))
+    (cases_Bool (is_of b p s))
+
+pub found : (b p : ℕ) (ss : List Sheet) → position (is_of b p) ss ≡ sheet_of b p ss
+found b p ss = ap (λ k. cond (ltb k (length ss)) (Some k) None) (first_is_position b p ss)
 
 -- the sheet that is found is of the page
 pub first_is_of : (b p : ℕ) (ss : List Sheet) → first_of b p ss < length ss → is_of b p (get_or ss (first_of b p ss) no_sheet) ≡ true

@@ -1,29 +1,52 @@
 -- The check's walk over the sheets, by the scratch and by the sheets alone.
-use Rattle.std.proofs.Common.{◌≡◌, ℕ, suc, ◌+◌, ◌*◌, ◌<◌, ◌≤◌, Bool, true, false, cond, ◌&&◌, eqb, ltb, List, [], ◌∷◌, length, get_or, take, drop, set, sym, refl, ap, ◌∙◌, ⊎_elim, arith}
+use Rattle.std.proofs.Common.{◌≡◌, ℕ, suc, ◌+◌, ◌*◌, ◌<◌, ◌≤◌, Bool, true, false, cond, ◌&&◌, eqb, ltb, List, [], ◌∷◌, length, get_or, take, drop, set, Ok, Err, is_ok, sym, refl, ap, ap₂, ◌∙◌, ⊎_elim, arith}
 use Rattle.std.proofs.lemmas.List.{at_drop_more, at_drop_all, length-set, get_or-set_same, get_or-set_other}
 use Rattle.std.proofs.lemmas.Bool.{cond-true, cond-false, cases_Bool, cases_eq}
 use Rattle.std.proofs.lemmas.Bool.Decides.{nat_tests}
 use Rattle.flash.specs.Geometry.{block_pages}
 use Rattle.flash.proofs.Runs.{get_or-filled, length-filled}
 use Rattle.sheets.specs.declared.Sheet.{Sheet}
+use Rattle.sheets.specs.declared.SheetFault.{SheetFault}
 use Rattle.sheets.specs.Pages.{no_sheet, is_of, first_of, has_sheet}
-use Rattle.sheets.specs.Checks.{byte_of, good_after, good_sheets, marked, cleared, good_now, walked}
+use Rattle.sheets.specs.Checks.{byte_of, good_after, good_sheets, marked, cleared, good_now, walked, page_found}
 
--- one step of the walk, and its end
-module _ (n : ℕ) (ss : List Sheet) (t : List ℕ) (i : ℕ) (within : i < length ss) where
-  step : walked n (drop i ss) t ≡ cond (good_now n t (get_or ss i no_sheet)) (walked n (drop (i + 1) ss) (set t (byte_of (get_or ss i no_sheet)) 1)) (false, t)
+found_good : (g : Bool) (x : Unit {0}) → page_found g ≡ Ok x → g ≡ true
+found_good true x e = refl
+found_good false x e = cc
+
+pub found_all : (g : Bool) → is_ok (page_found g) ≡ true → g ≡ true
+found_all true e = refl
+found_all false e = cc
+
+found_bad : (g : Bool) (x : SheetFault) → page_found g ≡ Err x → g ≡ false
+found_bad true x e = cc
+found_bad false x e = refl
+
+-- one step of a walk that is as good as `all`, by what the mark of its sheet answers, and the walk's end
+module _ (n : ℕ) (ss : List Sheet) (t : List ℕ) (i : ℕ) (all : Bool × List ℕ) (so_far : walked n (drop i ss) t ≡ all) where
+  abbrev good : Bool
+  good = good_now n t (get_or ss i no_sheet)
+
+  abbrev after : List ℕ
+  after = set t (byte_of (get_or ss i no_sheet)) 1
+
+  step : i < length ss → walked n (drop i ss) t ≡ cond good (walked n (drop (i + 1) ss) after) (false, t)
   unfolding walked
-  step = at_drop_more (λ xs. walked n xs t) ss i no_sheet within
+  step within = at_drop_more (λ xs. walked n xs t) ss i no_sheet within
 
-  pub walk_on : good_now n t (get_or ss i no_sheet) ≡ true → walked n (drop (i + 1) ss) (set t (byte_of (get_or ss i no_sheet)) 1) ≡ walked n (drop i ss) t
-  walk_on g = sym (step ∙ cond-true _ _ _ g)
+  pub walk_on : (x : Unit {0}) (u : List ℕ) → i < length ss → page_found good ≡ Ok x → u ≡ cond good after t → walked n (drop (i + 1) ss) u ≡ all
+  walk_on x u within f e =
+      let g = found_good good x f in
+      ap (walked n (drop (i + 1) ss)) (e ∙ cond-true _ _ _ g) ∙ sym (step within ∙ cond-true _ _ _ g) ∙ so_far
 
-  pub walk_stops : good_now n t (get_or ss i no_sheet) ≡ false → (false, t) ≡ walked n (drop i ss) t
-  walk_stops g = sym (step ∙ cond-false _ _ _ g)
+  pub walk_stops : (x : SheetFault) (u : List ℕ) → i < length ss → page_found good ≡ Err x → u ≡ cond good after t → (good, u) ≡ all
+  walk_stops x u within f e =
+      let g = found_bad good x f in
+      ap₂ (λ r v. (r, v)) g (e ∙ cond-false _ _ _ g) ∙ sym (step within ∙ cond-false _ _ _ g) ∙ so_far
 
-pub walk_ends : (n : ℕ) (ss : List Sheet) (t : List ℕ) (i : ℕ) → length ss ≤ i → (true, t) ≡ walked n (drop i ss) t
-unfolding walked
-walk_ends n ss t i h = sym (at_drop_all (λ xs. walked n xs t) ss i h)
+  pub walk_ends : length ss ≤ i → (true, t) ≡ all
+  unfolding walked
+  walk_ends h = sym (at_drop_all (λ xs. walked n xs t) ss i h) ∙ so_far
 
 -- the scratch shows which pages of n blocks have a sheet
 abbrev Shows : ℕ → List Sheet → List ℕ → Type 0

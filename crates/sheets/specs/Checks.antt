@@ -1,5 +1,5 @@
 -- What the check of a list of sheets answers, and what it leaves in the scratch.
-use Rattle.std.specs.Prelude.{ℕ, suc, ◌+◌, ◌*◌, Bool, true, false, cond, not, ◌&&◌, List, [], ◌∷◌, length, take, Some, None, Option, ◌==◌, nat_le, nat_lt, slice_index, slice_set}
+use Rattle.std.specs.Prelude.{ℕ, suc, ◌+◌, ◌*◌, Bool, true, false, cond, not, ◌&&◌, List, [], ◌∷◌, length, take, Some, None, Ok, Err, Option, Result, ◌==◌, nat_le, nat_lt, slice_index, slice_set}
 use Rattle.flash.specs.Geometry.{max_blocks, block_pages, page_words}
 use Rattle.flash.specs.Runs.{filled}
 use Rattle.sheets.specs.declared.Sheet.{Sheet}
@@ -37,6 +37,11 @@ good_after n before s = nat_lt s.block n && (nat_lt s.page block_pages && not (h
 unfoldable pub good_sheets : ℕ → List Sheet → List Sheet → ℕ
 good_sheets n before [] = 0
 good_sheets n before (s ∷ ss) = cond (good_after n before s) (suc (good_sheets n (s ∷ before) ss)) 0
+
+-- what the check says of the pages, by whether each sheet has one of its own
+abbrev pub page_found : Bool → Result (Unit {0}) SheetFault
+page_found true = Ok tt
+page_found false = Err Page
 
 -- the number of the first fault
 abbrev pub sheet_check : ℕ → List Sheet → List ℕ → List ℕ → Option ℕ

@@ -1,5 +1,5 @@
 -- What a list of sheets with its words means, and what programs and erases leave of both.
-use Rattle.std.specs.Prelude.{ℕ, ◌+◌, ◌*◌, Bool, false, cond, not, ◌&&◌, List, map, ◌==◌, bit_and, nat_lt, slice_index, slice_index_or, slice_set}
+use Rattle.std.specs.Prelude.{ℕ, ◌+◌, ◌*◌, Bool, false, cond, not, ◌&&◌, List, map, Some, None, Option, ◌==◌, bit_and, nat_lt, slice_index, slice_index_or, slice_set}
 use Rattle.flash.specs.Geometry.{page_words, blank_word, bits16}
 use Rattle.flash.specs.Meaning.{Meaning, programmable, erasable}
 use Rattle.flash.specs.Runs.{filled}
@@ -28,12 +28,9 @@ sheet_meaning n ss ws = record {
   dead_block = λ b. false;
 }
 
--- the word that a read finds
-abbrev pub word_held : ℕ → List Sheet → List ℕ → ℕ → ℕ → ℕ → ℕ
-word_held n ss ws b p w =
-    cond (programmable (sheet_meaning n ss ws) b p w)
-    (cond (mark ss (first_of b p ss) == 0) blank_word (slice_index ws (place (first_of b p ss) w)))
-    blank_word
+-- the sheet that has a word which can be programmed
+abbrev pub seat_of : ℕ → List Sheet → List ℕ → ℕ → ℕ → ℕ → Option ℕ
+seat_of n ss ws b p w = cond (programmable (sheet_meaning n ss ws) b p w) (Some (first_of b p ss)) None
 
 -- the sheet, its mark set
 abbrev pub written : Sheet → Sheet

@@ -11,7 +11,7 @@ use flash::Array;
 use onenand_registers::address::{Place, place_of};
 use onenand_rows::Row;
 use onenand_rules::calls::Refusal;
-use onenand_rules::checks::plan;
+use onenand_rules::checks::Request;
 use onenand_rules::commands::Command;
 use onenand_rules::plans::Running;
 use onenand_rules::state::Core;
@@ -29,13 +29,11 @@ impl<D: Array> Chip<D> {
     fn start(&mut self, code: u16)
         ensures { state_of self.new ≡ accepted (state_of self.old) code }
     {
-        let n = self.array.count();
-        let plan = plan(
-            &self.core.locks,
-            self.core.registers.operands,
-            n,
-            Command::decode(code),
-        );
+        let request = Request {
+            command: Command::from(code),
+            operands: self.core.registers.operands,
+        };
+        let plan = request.plan(&self.core.locks, self.array.count());
         self.core
             .registers
             .begin(code, plan.kind().running_status());
@@ -48,7 +46,7 @@ impl<D: Array> Chip<D> {
         ensures answer { write_reply result ≡ (commanded (state_of self.old) code).1 }
         ensures state { state_of self.new ≡ (commanded (state_of self.old) code).0 }
     {
-        let command = Command::decode(code);
+        let command = Command::from(code);
         if self.core.running.is_busy(command) {
             Err(Refusal::Busy)
         } else if is_pending(&self.core, command) {

@@ -5,5 +5,5 @@ use Rattle.onenand.proofs.chip.power_on.Goals as goal
 pub returns : goal.returns
 returns g c = record {
   state = same_state c.core_over.ensures.core c.core_over.ensures.same;
-  promise = λ calls. promised c.args.device c.args.version (g.D.Array.meaning c.args.array.now) calls (g.D.Array.capped c.args.array.now);
+  promise = λ calls. promised c.args.device c.args.version (g.D.Array.meaning c.args.array.now) calls (g.met.D.Array.capped c.args.array.now);
 }

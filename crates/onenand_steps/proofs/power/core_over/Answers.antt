@@ -2,8 +2,5 @@ use Rattle.std.proofs.Common.{ap, ◌∙◌}
 use Rattle.onenand_rules.specs.Resets.{fresh_core}
 use Rattle.onenand_steps.proofs.power.core_over.Goals as goal
 
-pub returns : goal.returns
-returns g c = record {
-  core = c.fresh_core.ensures ∙ ap (fresh_core c.args.device c.args.version) c.boot_words-boot.ensures.words;
-  same = c.boot_words-boot.ensures.same;
-}
+pub returns-clause-core : goal.returns-clause-core
+returns-clause-core g c = c.fresh_core.ensures ∙ ap (fresh_core c.args.device c.args.version) c.boot_words-boot.ensures.words
