@@ -9,7 +9,7 @@ ghost use Rattle.calibration.specs.Words.{is_same, same_words};
 ghost use Rattle.calibration.specs.Orders.{order};
 ghost use Rattle.calibration.specs.Texts.{text};
 
-use flash::{Array, BLANK, BLOCK_WORDS};
+use flash::{Array, BLANK, BLOCK_WORDS, Numbered};
 use image::Image;
 use onenand::Chip;
 use onenand_play::play;

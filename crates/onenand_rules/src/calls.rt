@@ -1,6 +1,7 @@
 // Calls, and what they answer.
-ghost use Rattle.std.specs.Prelude.{◌≡◌};
 ghost use Rattle.onenand_rules.specs.Calls.{number_of};
+
+use flash::Numbered;
 
 // What a host does to the chip.
 #[derive(Clone, Copy, PartialEq, Eq, Debug)]
@@ -33,11 +34,10 @@ pub enum Refusal {
     NoCommand = 11,
 }
 
-impl Refusal {
-    // Its number.
-    pub fn number(self) -> u8
-        ensures { result ≡ number_of self }
-    {
+impl Numbered for Refusal {
+    ghost number_of = { number_of };
+
+    fn number(self) -> u8 {
         self as u8
     }
 }

@@ -3,11 +3,12 @@ ghost use Rattle.std.specs.Prelude.{◌≡◌, Some};
 ghost use Rattle.script_entries.specs.declared.faults.Fault.TheVariants.{Chip as by_chip};
 ghost use Rattle.script_entries.specs.Codes.{code_of, layer_text};
 
+use flash::Numbered;
 use onenand_rules::calls::Refusal;
 use std::fmt;
 
 // A fault of a line, or of the whole script.
-#[derive(Clone, Copy)]
+#[derive(Clone, Copy, PartialEq, Eq, Debug)]
 pub enum Fault {
     // The chip refused the call that the form puts.
     Chip(Refusal),
