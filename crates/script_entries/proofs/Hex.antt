@@ -2,7 +2,7 @@
 use Rattle.std.proofs.Common.{◌≡◌, ℕ, ◌/◌, ◌%◌, ◌^◌, ◌-◌, ◌<◌, ◌≤◌, true, false, eqb, [], ◌∷◌, ⊎_elim, arith, eq-eqb, ne_eqb}
 use Rattle.std.specs.Fmt.{digits, digit_glyph, char_count, padded_integral, format_spec}
 use Rattle.std.proofs.lemmas.Fmt.{hex_one_digit, hex_two_digits}
-use Rattle.std.proofs.str.Laws.{order}
+use Rattle.std.proofs.lemmas.Bool.{cases_lt}
 use Rattle.script_forms.specs.Grammar.{hex4}
 
 -- a number of three digits, and one of four
@@ -33,9 +33,9 @@ hex_word n small = ⊎_elim
     (λ (low : n < 256). let a : n / 4096 ≡ 0 = omega arith in let b : n / 256 % 16 ≡ 0 = omega arith in ⊎_elim
     (λ one. let c : n / 16 % 16 ≡ 0 = omega arith in let d : n % 16 ≡ n = omega arith in rw (hex_one_digit true n one, a, b, c, d))
     (λ two. let c : n / 16 % 16 ≡ n / 16 = omega arith in rw (hex_two_digits true n two low, a, b, c))
-    (order n 16))
+    (cases_lt n 16))
     (λ (high : 256 ≤ n). ⊎_elim
     (λ three. let a : n / 4096 ≡ 0 = omega arith in let b : n / 256 % 16 ≡ n / 256 = omega arith in rw (three_digits n high three, a, b))
     (λ four. rw (four_digits n four small))
-    (order n 4096))
-    (order n 256)
+    (cases_lt n 4096))
+    (cases_lt n 256)

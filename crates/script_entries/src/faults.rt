@@ -45,20 +45,12 @@ impl Fault {
     pub fn code(self) -> Code
         ensures { result ≡ code_of self }
     {
-        match self {
-            Fault::Chip(e) => Code {
-                layer: Layer::Chip,
-                number: e.number(),
-            },
-            Fault::NoForm => Code {
-                layer: Layer::Script,
-                number: 12,
-            },
-            Fault::TooLong => Code {
-                layer: Layer::Script,
-                number: 13,
-            },
-        }
+        let (layer, number) = match self {
+            Fault::Chip(e) => (Layer::Chip, e.number()),
+            Fault::NoForm => (Layer::Script, 12),
+            Fault::TooLong => (Layer::Script, 13),
+        };
+        Code { layer, number }
     }
 }
 

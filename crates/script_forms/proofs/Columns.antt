@@ -1,7 +1,6 @@
 -- The column of a line that is no form.
 use Rattle.std.proofs.Common.{◌≡◌, ℕ, zero, suc, ◌+◌, ◌-◌, ◌<◌, ◌≤◌, max, true, false, cond, eqb, List, [], ◌∷◌, ◌++◌, length, take, drop, Ok, Err, Result, refl, ap, ◌∙◌, subst, ⊎_elim, arith, eq-eqb, eqb-true}
-use Rattle.std.proofs.str.Laws.{order}
-use Rattle.std.proofs.lemmas.Bool.{cond_both, both_ways, and_from, and_parts}
+use Rattle.std.proofs.lemmas.Bool.{cond_both, both_ways, and_from, and_parts, cases_lt}
 use Rattle.std.proofs.lemmas.Bool.Decides.{nat_tests}
 use Rattle.std.proofs.lemmas.List.{length-append, length-take}
 use Rattle.script_forms.specs.Shapes.{read_shape, write_shape, tick_shape, warm_shape, cold_shape, fits, agreed, has_shape, begun}
@@ -78,7 +77,7 @@ begins line =
     longer {a} {b} p q = ⊎_elim
         (λ (h : a < b). let e : b ≡ max a b = omega arith in subst (Front line) e q)
         (λ (h : b ≤ a). let e : a ≡ max a b = omega arith in subst (Front line) e p)
-        (order a b)
+        (cases_lt a b)
 
     so_far : (ss : List ℕ) → (NoShape (full ss line) → has_shape ss (full ss line) ≡ false) → Front line (agreed ss line)
     so_far ss other = record { begins = (fill (drop (agreed ss line) ss), some_form (full ss line) (λ none. both_ways _ (other none) (is_whole ss line))) }
