@@ -6,7 +6,7 @@ use Rattle.onenand_registers.specs.Bits.{bit}
 use Rattle.onenand_transfer.specs.declared.Part.{Part}
 use Rattle.onenand_transfer.specs.declared.Part.TheVariants.{Whole, Spare}
 use Rattle.onenand_transfer.specs.declared.Transfer.{Transfer}
-use Rattle.onenand_transfer.specs.Transfers.{size, words, sector_word, page_of, page_sector, buffer_sector, page_word, buffer_word}
+use Rattle.onenand_transfer.specs.Transfers.{size, words, counted, sector_word, page_of, page_sector, buffer_sector, page_word, buffer_word}
 use Rattle.onenand_rules.specs.declared.plans.Plan.{Plan}
 use Rattle.onenand_rules.specs.declared.plans.Plan.TheVariants.{Fails, Loads, Programs, Copies, Erases, Verifies, Protects, Resets}
 use Rattle.onenand_rules.specs.declared.plans.Running.TheVariants.{Runs}
@@ -47,23 +47,25 @@ stays n i o = cond_both (ltb i n) (256 - i % 264) 0 (λ l. o < l → (i < n) × 
 up : (n s x o : ℕ) → x + o < 256 → sector_word n s (x + o) ≡ sector_word n s x + o
 up n s x o h = grind (arith, nat_tests)
 
-page_up : (part : Part) (n g i o : ℕ) → o < left part n i → page_word part g (i + o) ≡ page_word part g i + o
-unfolding page_word
-page_up Whole n g i o h =
+-- of word i of those that move, where a list of n sectors has them, taken in the order of `sector`
+abbrev placed : ℕ → (ℕ → ℕ) → Part → ℕ → ℕ
+placed n sector part i = let c = counted part i in sector_word n (sector (c / 264)) (c % 264)
+
+place_up : (part : Part) (n m i o : ℕ) (sector : ℕ → ℕ) → o < left part n i → placed m sector part (i + o) ≡ placed m sector part i + o
+place_up Whole n m i o sector h =
     let k = (stays n i o h).1 in
     let q : (i + o) / 264 ≡ i / 264 = omega arith in
     let r : (i + o) % 264 ≡ i % 264 + o = omega arith in
-    (λ j. sector_word 2 (page_sector g (q j)) (r j)) ∙ up 2 (page_sector g (i / 264)) (i % 264) o k
-page_up Spare n g i o h = absurd (omega arith)
+    (λ j. sector_word m (sector (q j)) (r j)) ∙ up m (sector (i / 264)) (i % 264) o k
+place_up Spare n m i o sector h = absurd (omega arith)
+
+page_up : (part : Part) (n g i o : ℕ) → o < left part n i → page_word part g (i + o) ≡ page_word part g i + o
+unfolding page_word
+page_up part n g i o h = place_up part n 2 i o (page_sector g) h
 
 data_up : (part : Part) (n f i o : ℕ) → o < left part n i → buffer_word part f (i + o) ≡ buffer_word part f i + o
 unfolding buffer_word
-data_up Whole n f i o h =
-    let k = (stays n i o h).1 in
-    let q : (i + o) / 264 ≡ i / 264 = omega arith in
-    let r : (i + o) % 264 ≡ i % 264 + o = omega arith in
-    (λ j. sector_word 4 (buffer_sector f (q j)) (r j)) ∙ up 4 (buffer_sector f (i / 264)) (i % 264) o k
-data_up Spare n f i o h = absurd (omega arith)
+data_up part n f i o h = place_up part n 4 i o (buffer_sector f) h
 
 -- a row ends before its transfer does
 before_end : (part : Part) (f i o : ℕ) → o < left part (size part f) i → (i + o) + 1 < size part f
