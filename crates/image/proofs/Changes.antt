@@ -1,6 +1,5 @@
 -- What reads, programs and erases of the caller's words do to the image's meaning.
-use Rattle.std.proofs.Common.{◌≡◌, ℕ, ◌+◌, ◌*◌, ◌/◌, ◌%◌, ◌^◌, ◌<◌, ◌≤◌, true, cond, ◌&&◌, eqb, leb, List, length, get_or, set, Some, ap, arith}
-use mathlib.Core.Path.{fun_ext}
+use Rattle.std.proofs.Common.{◌≡◌, ℕ, ◌+◌, ◌*◌, ◌/◌, ◌%◌, ◌^◌, ◌<◌, ◌≤◌, true, cond, ◌&&◌, eqb, leb, List, length, get_or, set, Some, refl, ap, arith}
 use lib.Bits.{bit_and}
 use Rattle.std.proofs.lemmas.List.{length-set, get_or-set_same, get_or-set_other, get_or_default}
 use Rattle.std.proofs.lemmas.Bool.Decides.{nat_tests}
@@ -8,6 +7,7 @@ use Rattle.flash.specs.Geometry.{max_blocks, block_words, blank_word}
 use Rattle.flash.specs.Meaning.{in_range, programmable, programmed, after_program, erasable, erased, after_erase}
 use Rattle.flash.specs.Runs.{filled}
 use Rattle.flash.proofs.Bits.{and_16}
+use Rattle.flash.proofs.Meanings.{same_meaning}
 use Rattle.flash.proofs.Runs.{length-filled, get_or-filled}
 use Rattle.image.specs.Layout.{place}
 use Rattle.image.specs.Contents.{blocks, image_meaning, place_of, words_erased}
@@ -41,12 +41,7 @@ module _ (ws wn : List ℕ) (b p w v : ℕ) (h : v < 2 ^ 16) (t : programmable (
       grind (arith, nat_tests, get_or-set_same, get_or-set_other, get_or_default)
 
   program_done : image_meaning (set ws at x) wn ≡ programmed (image_meaning ws wn) b p w v
-  program_done = λ i. record {
-    count = blocks_same (set ws at x) ws wn (length-set ws at x) i;
-    word = fun_ext (λ b'. fun_ext (λ p'. fun_ext (λ w'. each b' p' w'))) i;
-    dead_page = (image_meaning ws wn).dead_page;
-    dead_block = (image_meaning ws wn).dead_block;
-  }
+  program_done = same_meaning _ _ (blocks_same (set ws at x) ws wn (length-set ws at x)) each (λ b' p'. refl) (λ b'. refl)
 
 pub programmed_is : (ws wn : List ℕ) (b p w v k : ℕ) → place_of ws wn b p w ≡ Some k → erasable (image_meaning ws wn) b ≡ true → v < 2 ^ 16
     → image_meaning (set ws k (bit_and (get_or ws k 0) v)) wn ≡ after_program (image_meaning ws wn) b p w v
@@ -63,12 +58,7 @@ module _ (ws wn : List ℕ) (b : ℕ) (t : erasable (image_meaning ws wn) b ≡ 
   each_word b' p' w' = grind (arith, nat_tests, get_or-filled, inside)
 
   erase_done : image_meaning blank wn ≡ erased (image_meaning ws wn) b
-  erase_done = λ i. record {
-    count = blocks_same blank ws wn (length-filled blank_word (b * block_words) block_words ws inside) i;
-    word = fun_ext (λ b'. fun_ext (λ p'. fun_ext (λ w'. each_word b' p' w'))) i;
-    dead_page = (image_meaning ws wn).dead_page;
-    dead_block = (image_meaning ws wn).dead_block;
-  }
+  erase_done = same_meaning _ _ (blocks_same blank ws wn (length-filled blank_word (b * block_words) block_words ws inside)) each_word (λ b' p'. refl) (λ b'. refl)
 
 pub erased_is : (ws wn xs : List ℕ) (b : ℕ) → xs ≡ words_erased ws wn b → image_meaning xs wn ≡ after_erase (image_meaning ws wn) b
 erased_is ws wn xs b e = grind (arith, nat_tests, erase_done)
