@@ -67,29 +67,14 @@ module _ (ss : List Sheet) (ws : List ℕ) (k w v : ℕ) (small : v < 2 ^ 16) (h
   -- the new word, by its 16 bits
   anded : bits16 x ≡ bit_and (bits16 (cond fresh blank_word (get_or ws (place k w) blank_word))) v
   anded =
-      let inside : (fresh && (leb (k * page_words) (place k w) && ltb (place k w) (k * page_words + page_words))) ≡ fresh = grind (arith, nat_tests) in
-      and_16 (get_or os (place k w) 0) v small
-      ∙ ap (λ y. bit_and (bits16 y) v) (get_or_default os (place k w) 0 blank_word hos ∙ get_or-words_opened fresh ws k hws (place k w) ∙ ap (λ u. cond u blank_word (get_or ws (place k w) blank_word)) inside)
+      let was = get_or_default os (place k w) 0 blank_word hos ∙ get_or-words_opened fresh ws k hws (place k w) in
+      let kept = and_16 (get_or os (place k w) 0) v small in
+      grind (arith, nat_tests)
 
   pub by_sheet : (j u : ℕ) → sheet_word (opened ss k) (word_stored fresh ws k w v) j u ≡ cond (eqb j k && eqb u w) (bit_and (sheet_word ss ws j u) v) (sheet_word ss ws j u)
   by_sheet j u =
-      let marks = mark_opened ss k j hk in
       let value = anded in
-      ⊎_elim
-      (λ (e : place j u ≡ place k w).
-      let here = ap (λ i. bits16 (get_or (word_stored fresh ws k w v) i blank_word)) e ∙ ap bits16 (get_or-set_same os (place k w) x blank_word hos) ∙ value in
-      let old = ap (λ i. bits16 (get_or ws i blank_word)) e in
-      ⊎_elim
-      (λ (same : j ≡ k). let at = ap (λ i. mark ss i) same in grind (arith, nat_tests))
-      (λ (ne : j ≡ k → ⊥). grind (arith, nat_tests))
-      (cases_eq j k))
-      (λ (ne : place j u ≡ place k w → ⊥).
-      let other = ap bits16 (get_or-set_other os (place k w) (place j u) x blank_word ne ∙ get_or-words_opened fresh ws k hws (place j u)) in
-      ⊎_elim
-      (λ (same : j ≡ k). let at = ap (λ i. mark ss i) same in grind (arith, nat_tests))
-      (λ (apart : j ≡ k → ⊥). grind (arith, nat_tests))
-      (cases_eq j k))
-      (cases_eq (place j u) (place k w))
+      grind (arith, nat_tests, mark_opened, get_or-set_same, get_or-set_other, get_or-words_opened, hos)
 
 module _ (n : ℕ) (ss : List Sheet) (ws : List ℕ) (b p w v : ℕ) (small : v < 2 ^ 16) (t : programmable (sheet_meaning n ss ws) b p w ≡ true) where
   abbrev k : ℕ
@@ -107,15 +92,13 @@ module _ (n : ℕ) (ss : List Sheet) (ws : List ℕ) (b p w v : ℕ) (small : v 
 
   each : (b' p' w' : ℕ) → (sheet_meaning n ss' ws').word b' p' w' ≡ (programmed (sheet_meaning n ss ws) b p w v).word b' p' w'
   each b' p' w' =
-      let j = first_of b' p' ss in
-      ap (λ i. sheet_word ss' ws' i w') (first_opened b' p' ss k)
-      ∙ by_sheet ss ws k w v small (sheet_in n ss ws b p w t) (word_low n ss ws b p w t) (words_in n ss ws b p w t) j w'
-      ∙ ap (λ u. cond u (bit_and (sheet_word ss ws j w') v) (sheet_word ss ws j w')) (one_page b' p' w')
+      let here = first_opened b' p' ss k in
+      let word = by_sheet ss ws k w v small (sheet_in n ss ws b p w t) (word_low n ss ws b p w t) (words_in n ss ws b p w t) (first_of b' p' ss) w' in
+      let page = one_page b' p' w' in
+      grind (arith, nat_tests)
 
   long : length ws' ≡ length ws
-  long =
-      let os = words_opened (eqb (mark ss k) 0) ws k in
-      length-set os (place k w) (bit_and (get_or os (place k w) 0) v) ∙ length-words_opened (eqb (mark ss k) 0) ws k (words_in n ss ws b p w t)
+  long = grind (arith, length-set, length-words_opened, words_in)
 
   program_done : sheet_meaning n ss' ws' ≡ programmed (sheet_meaning n ss ws) b p w v
   program_done = same_meaning _ _ (blocks_same n ss ss' ws ws' (length-opened ss k) long) each
@@ -150,7 +133,7 @@ module _ (n : ℕ) (ss : List Sheet) (ws : List ℕ) (b : ℕ) where
       let marks = mark_unmarked b ss j in
       ap (λ i. sheet_word us ws i w') (first_unmarked b' p' b ss) ∙ ⊎_elim
       (λ (h : j < length ss). let is = first_is_of b' p' ss h in grind (arith, nat_tests))
-      (λ (h : length ss ≤ j). let none = ap (λ s. s.written) (get_or_past ss j no_sheet h) in grind (arith, nat_tests))
+      (λ (h : length ss ≤ j). let none = get_or_past ss j no_sheet h in grind (arith, nat_tests))
       (cases_lt j (length ss))
 
   erase_done : sheet_meaning n us ws ≡ erased (sheet_meaning n ss ws) b

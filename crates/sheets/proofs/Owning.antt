@@ -45,10 +45,7 @@ new_later n before s ss k r =
 all_good : (n : ℕ) (before : List Sheet) (s : Sheet) (ss : List Sheet) → good_sheets n before (s ∷ ss) ≡ length (s ∷ ss)
     → (good_after n before s ≡ true) × (good_sheets n (s ∷ before) ss ≡ length ss)
 unfolding good_sheets
-all_good n before s ss e = ⊎_elim
-    (λ (g : good_after n before s ≡ true). let z = cond-true (good_after n before s) (suc (good_sheets n (s ∷ before) ss)) 0 g in (g, omega arith))
-    (λ (g : good_after n before s ≡ false). let z = cond-false (good_after n before s) (suc (good_sheets n (s ∷ before) ss)) 0 g in absurd (omega arith))
-    (cases_Bool (good_after n before s))
+all_good n before s ss e = (grind (arith, nat_tests), grind (arith, nat_tests))
 
 all_new : (n : ℕ) (before ss : List Sheet) → good_sheets n before ss ≡ length ss → (k : ℕ) → k < length ss → New n before ss k
 all_new n before [] e k h = absurd (omega arith)

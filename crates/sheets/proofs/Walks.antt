@@ -54,10 +54,7 @@ Shows n before t = (b p : ℕ) → b < n → p < block_pages → get_or t (b * b
 
 pub has_more : (b p : ℕ) (s : Sheet) (ss : List Sheet) → has_sheet b p (s ∷ ss) ≡ cond (is_of b p s) true (has_sheet b p ss)
 unfolding first_of
-has_more b p s ss = ⊎_elim
-    (λ (e : is_of b p s ≡ true). let z = cond-true (is_of b p s) 0 (suc (first_of b p ss)) e in grind (arith, nat_tests))
-    (λ (e : is_of b p s ≡ false). let z = cond-false (is_of b p s) 0 (suc (first_of b p ss)) e in grind (arith, nat_tests))
-    (cases_Bool (is_of b p s))
+has_more b p s ss = grind (arith, nat_tests)
 
 shows_none : (n : ℕ) (t : List ℕ) → n * block_pages ≤ length t → Shows n [] (cleared n t)
 unfolding first_of
@@ -67,18 +64,10 @@ shows_more : (n : ℕ) (before : List Sheet) (t : List ℕ) (s : Sheet) → n * 
 shows_more n before t s long g shows b p hb hp =
     let more = has_more b p s before in
     let was = shows b p hb hp in
-    let within : byte_of s < length t = grind (arith, nat_tests) in
-    let low : s.page < block_pages = grind (arith, nat_tests) in
-    ⊎_elim
-    (λ (e : b * block_pages + p ≡ byte_of s). let here = ap (λ i. get_or (set t (byte_of s) 1) i 0) e ∙ get_or-set_same t (byte_of s) 1 0 within in grind (arith, nat_tests))
-    (λ (ne : b * block_pages + p ≡ byte_of s → ⊥). let other = get_or-set_other t (byte_of s) (b * block_pages + p) 1 0 ne in grind (arith, nat_tests))
-    (cases_eq (b * block_pages + p) (byte_of s))
+    grind (arith, nat_tests, get_or-set_same, get_or-set_other)
 
 same_test : (n : ℕ) (before : List Sheet) (t : List ℕ) (s : Sheet) → Shows n before t → good_now n t s ≡ good_after n before s
-same_test n before t s shows = ⊎_elim
-    (λ (r : (ltb s.block n && ltb s.page block_pages) ≡ true). let e = shows s.block s.page (grind (arith, nat_tests)) (grind (arith, nat_tests)) in grind (arith, nat_tests))
-    (λ (r : (ltb s.block n && ltb s.page block_pages) ≡ false). grind (arith, nat_tests))
-    (cases_Bool (ltb s.block n && ltb s.page block_pages))
+same_test n before t s shows = grind (arith, nat_tests, shows)
 
 -- what the walk gives, by how many sheets are good
 abbrev given : ℕ → List Sheet → List ℕ → Bool × List ℕ
