@@ -1,13 +1,12 @@
 -- What reads, programs and erases of the caller's lists do to the meaning of a sheet array.
-use Rattle.std.proofs.Common.{◌≡◌, ℕ, zero, suc, ◌+◌, ◌*◌, ◌^◌, ◌<◌, ◌≤◌, Bool, true, false, cond, not, ◌&&◌, eqb, ltb, leb, List, [], ◌∷◌, map, ◌++◌, length, get_or, take, drop, set, Some, sym, refl, ap, ◌∙◌, ap₂, ⊎_elim, arith}
+use Rattle.std.proofs.Common.{◌≡◌, ℕ, zero, suc, ◌+◌, ◌*◌, ◌^◌, ◌<◌, ◌≤◌, Bool, true, cond, not, ◌&&◌, eqb, ltb, leb, List, [], ◌∷◌, map, ◌++◌, length, get_or, take, drop, set, Some, refl, ap, ◌∙◌, ap₂, ⊎_elim, arith}
 use lib.Bits.{bit_and}
 use Rattle.std.proofs.lemmas.List.{length-set, length-map, get_or-set_same, get_or-set_other, set-get_or, get_or_default, get_or_past}
 use Rattle.std.proofs.lemmas.List.Edits.{map_over_more}
-use Rattle.std.proofs.lemmas.Bool.{cond_both, cond-true, cond-false, cases_Bool, cases_eq, cases_lt}
+use Rattle.std.proofs.lemmas.Bool.{cases_lt}
 use Rattle.std.proofs.lemmas.Bool.Decides.{nat_tests}
 use Rattle.flash.specs.Geometry.{max_blocks, page_words, blank_word, bits16}
-use Rattle.flash.specs.Meaning.{programmable, programmed, after_program, erasable, erased, after_erase}
-use Rattle.flash.specs.Runs.{filled}
+use Rattle.flash.specs.Meaning.{programmable, programmed, after_program, erased, after_erase}
 use Rattle.flash.proofs.Bits.{and_16}
 use Rattle.flash.proofs.Meanings.{same_meaning}
 use Rattle.flash.proofs.Runs.{length-filled, get_or-filled}

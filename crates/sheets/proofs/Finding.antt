@@ -1,7 +1,6 @@
 -- The first sheet of a page: a walk finds it, it is of that page, and marks do not move it.
-use Rattle.std.proofs.Common.{◌≡◌, ℕ, zero, suc, ◌<◌, true, false, cond, ltb, Some, None, List, [], ◌∷◌, map, length, get_or, set, sym, refl, ap, subst, ⊎_elim, arith}
+use Rattle.std.proofs.Common.{◌≡◌, ℕ, zero, suc, ◌<◌, true, cond, ltb, Some, None, List, [], ◌∷◌, map, length, get_or, set, refl, ap, arith}
 use Rattle.std.specs.List.{position_or_len, position}
-use Rattle.std.proofs.lemmas.Bool.{cond-true, cond-false, cases_Bool}
 use Rattle.std.proofs.lemmas.Bool.Decides.{nat_tests}
 use Rattle.sheets.specs.declared.Sheet.{Sheet}
 use Rattle.sheets.specs.Pages.{no_sheet, is_of, first_of, sheet_of}
