@@ -1,8 +1,8 @@
 // Takes a calibration table through a flash array and prints what programming and erasing do to it: in an image, then in sheets.
 #![tactic(auto)]
 
-ghost use Rattle.std.specs.Prelude.{◌≡◌, [], ◌∷◌, OnOk};
-ghost use Rattle.array_tour.specs.Tables.{stored, four_words, told, toured};
+ghost use Rattle.std.specs.Prelude.{◌≡◌, [], ◌∷◌, Some, OnOk};
+ghost use Rattle.array_tour.specs.Tables.{stored, four_words, four_text, told, toured};
 
 use flash::{Array, BLANK, BLOCK_WORDS, Failed, Location, Numbered, PAGE_WORDS};
 use image::Image;
@@ -42,6 +42,8 @@ impl Page {
 struct Four([u16; 4]);
 
 impl fmt::Display for Four {
+    ghost output = { λ it. Some (four_text it.0) };
+
     fn fmt<W: fmt::Write>(&self, f: &mut fmt::Formatter<W>) -> fmt::Result {
         let [a, b, c, d] = self.0;
         write!(f, "{a:04X} {b:04X} {c:04X} {d:04X}")

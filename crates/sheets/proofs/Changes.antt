@@ -1,15 +1,14 @@
 -- What reads, programs and erases of the caller's lists do to the meaning of a sheet array.
-use Rattle.std.proofs.Common.{◌≡◌, ℕ, zero, suc, ◌+◌, ◌*◌, ◌^◌, ◌<◌, ◌≤◌, Bool, true, false, cond, not, ◌&&◌, eqb, ltb, leb, List, [], ◌∷◌, map, ◌++◌, length, get_or, take, drop, set, Some, sym, refl, ap, ◌∙◌, ap₂, ⊎_elim, arith}
-use mathlib.Core.Path.{fun_ext}
+use Rattle.std.proofs.Common.{◌≡◌, ℕ, zero, suc, ◌+◌, ◌*◌, ◌^◌, ◌<◌, ◌≤◌, Bool, true, cond, not, ◌&&◌, eqb, ltb, leb, List, [], ◌∷◌, map, ◌++◌, length, get_or, take, drop, set, Some, refl, ap, ◌∙◌, ap₂, ⊎_elim, arith}
 use lib.Bits.{bit_and}
 use Rattle.std.proofs.lemmas.List.{length-set, length-map, get_or-set_same, get_or-set_other, set-get_or, get_or_default, get_or_past}
 use Rattle.std.proofs.lemmas.List.Edits.{map_over_more}
-use Rattle.std.proofs.lemmas.Bool.{cond_both, cond-true, cond-false, cases_Bool, cases_eq, cases_lt}
+use Rattle.std.proofs.lemmas.Bool.{cases_lt}
 use Rattle.std.proofs.lemmas.Bool.Decides.{nat_tests}
 use Rattle.flash.specs.Geometry.{max_blocks, page_words, blank_word, bits16}
-use Rattle.flash.specs.Meaning.{programmable, programmed, after_program, erasable, erased, after_erase}
-use Rattle.flash.specs.Runs.{filled}
+use Rattle.flash.specs.Meaning.{programmable, programmed, after_program, erased, after_erase}
 use Rattle.flash.proofs.Bits.{and_16}
+use Rattle.flash.proofs.Meanings.{same_meaning}
 use Rattle.flash.proofs.Runs.{length-filled, get_or-filled}
 use Rattle.sheets.specs.declared.Sheet.{Sheet}
 use Rattle.sheets.specs.Pages.{no_sheet, first_of, mark}
@@ -23,41 +22,21 @@ blocks_same n ss tt' ws xs e f = ap₂ (λ k m. cond (leb n max_blocks && (leb k
 
 -- sheet k after it was opened: its mark, its page, and how many sheets there are
 mark_opened : (ss : List Sheet) (k j : ℕ) → k < length ss → mark (opened ss k) j ≡ cond (eqb j k && eqb (mark ss k) 0) 1 (mark ss j)
-mark_opened ss k j h = cond_both (eqb (mark ss k) 0) (set ss k (written (get_or ss k no_sheet))) ss
-    (λ tt'. mark tt' j ≡ cond (eqb j k && eqb (mark ss k) 0) 1 (mark ss j))
-    (λ z. ⊎_elim
-    (λ (e : j ≡ k).
-    let at = ap (λ i. mark (set ss k (written (get_or ss k no_sheet))) i) e in
-    let same = ap (λ s. s.written) (get_or-set_same ss k (written (get_or ss k no_sheet)) no_sheet h) in
-    grind (arith, nat_tests))
-    (λ (ne : j ≡ k → ⊥).
-    let other = ap (λ s. s.written) (get_or-set_other ss k j (written (get_or ss k no_sheet)) no_sheet ne) in
-    grind (arith, nat_tests))
-    (cases_eq j k))
-    (λ z. grind (arith, nat_tests))
+mark_opened ss k j h = grind (arith, nat_tests, get_or-set_same, get_or-set_other)
 
 first_opened : (b p : ℕ) (ss : List Sheet) (k : ℕ) → first_of b p (opened ss k) ≡ first_of b p ss
-first_opened b p ss k = cond_both (eqb (mark ss k) 0) (set ss k (written (get_or ss k no_sheet))) ss (λ tt'. first_of b p tt' ≡ first_of b p ss)
-    (λ z. first_set b p ss k (written (get_or ss k no_sheet)) refl)
-    (λ z. refl)
+first_opened b p ss k = grind (arith, nat_tests, first_set)
 
 length-opened : (ss : List Sheet) (k : ℕ) → length (opened ss k) ≡ length ss
-length-opened ss k = cond_both (eqb (mark ss k) 0) (set ss k (written (get_or ss k no_sheet))) ss (λ tt'. length tt' ≡ length ss)
-    (λ z. length-set ss k (written (get_or ss k no_sheet)))
-    (λ z. refl)
+length-opened ss k = grind (arith, nat_tests, length-set)
 
 -- the words of sheet k after it was opened
 module _ (fresh : Bool) (ws : List ℕ) (k : ℕ) (h : k * page_words + page_words ≤ length ws) where
   length-words_opened : length (words_opened fresh ws k) ≡ length ws
-  length-words_opened = cond_both fresh (filled blank_word (k * page_words) page_words ws) ws (λ xs. length xs ≡ length ws)
-      (λ z. length-filled blank_word (k * page_words) page_words ws h)
-      (λ z. refl)
+  length-words_opened = grind (arith, nat_tests, length-filled)
 
   get_or-words_opened : (i : ℕ) → get_or (words_opened fresh ws k) i blank_word ≡ cond (fresh && (leb (k * page_words) i && ltb i (k * page_words + page_words))) blank_word (get_or ws i blank_word)
-  get_or-words_opened i = cond_both fresh (filled blank_word (k * page_words) page_words ws) ws
-      (λ xs. get_or xs i blank_word ≡ cond (fresh && (leb (k * page_words) i && ltb i (k * page_words + page_words))) blank_word (get_or ws i blank_word))
-      (λ z. let e = get_or-filled blank_word (k * page_words) page_words ws i blank_word h in grind (arith, nat_tests))
-      (λ z. grind (arith, nat_tests))
+  get_or-words_opened i = grind (arith, nat_tests, get_or-filled)
 
 -- a word that a program changes stands within the lists
 module _ (n : ℕ) (ss : List Sheet) (ws : List ℕ) (b p w : ℕ) (t : programmable (sheet_meaning n ss ws) b p w ≡ true) where
@@ -82,34 +61,19 @@ module _ (ss : List Sheet) (ws : List ℕ) (k w v : ℕ) (small : v < 2 ^ 16) (h
   x = bit_and (get_or os (place k w) 0) v
 
   hos : place k w < length os
-  hos = let e = length-words_opened fresh ws k hws in omega arith
+  hos = grind (arith, length-words_opened)
 
   -- the new word, by its 16 bits
   anded : bits16 x ≡ bit_and (bits16 (cond fresh blank_word (get_or ws (place k w) blank_word))) v
   anded =
-      let inside : (fresh && (leb (k * page_words) (place k w) && ltb (place k w) (k * page_words + page_words))) ≡ fresh = grind (arith, nat_tests) in
-      and_16 (get_or os (place k w) 0) v small
-      ∙ ap (λ y. bit_and (bits16 y) v) (get_or_default os (place k w) 0 blank_word hos ∙ get_or-words_opened fresh ws k hws (place k w) ∙ ap (λ u. cond u blank_word (get_or ws (place k w) blank_word)) inside)
+      let was = get_or_default os (place k w) 0 blank_word hos ∙ get_or-words_opened fresh ws k hws (place k w) in
+      let kept = and_16 (get_or os (place k w) 0) v small in
+      grind (arith, nat_tests)
 
   pub by_sheet : (j u : ℕ) → sheet_word (opened ss k) (word_stored fresh ws k w v) j u ≡ cond (eqb j k && eqb u w) (bit_and (sheet_word ss ws j u) v) (sheet_word ss ws j u)
   by_sheet j u =
-      let marks = mark_opened ss k j hk in
       let value = anded in
-      ⊎_elim
-      (λ (e : place j u ≡ place k w).
-      let here = ap (λ i. bits16 (get_or (word_stored fresh ws k w v) i blank_word)) e ∙ ap bits16 (get_or-set_same os (place k w) x blank_word hos) ∙ value in
-      let old = ap (λ i. bits16 (get_or ws i blank_word)) e in
-      ⊎_elim
-      (λ (same : j ≡ k). let at = ap (λ i. mark ss i) same in grind (arith, nat_tests))
-      (λ (ne : j ≡ k → ⊥). grind (arith, nat_tests))
-      (cases_eq j k))
-      (λ (ne : place j u ≡ place k w → ⊥).
-      let other = ap bits16 (get_or-set_other os (place k w) (place j u) x blank_word ne ∙ get_or-words_opened fresh ws k hws (place j u)) in
-      ⊎_elim
-      (λ (same : j ≡ k). let at = ap (λ i. mark ss i) same in grind (arith, nat_tests))
-      (λ (apart : j ≡ k → ⊥). grind (arith, nat_tests))
-      (cases_eq j k))
-      (cases_eq (place j u) (place k w))
+      grind (arith, nat_tests, mark_opened, get_or-set_same, get_or-set_other, get_or-words_opened, hos)
 
 module _ (n : ℕ) (ss : List Sheet) (ws : List ℕ) (b p w v : ℕ) (small : v < 2 ^ 16) (t : programmable (sheet_meaning n ss ws) b p w ≡ true) where
   abbrev k : ℕ
@@ -123,56 +87,30 @@ module _ (n : ℕ) (ss : List Sheet) (ws : List ℕ) (b p w v : ℕ) (small : v 
 
   -- sheet k alone is of page p of block b
   one_page : (b' p' w' : ℕ) → (eqb (first_of b' p' ss) k && eqb w' w) ≡ (eqb b' b && (eqb p' p && eqb w' w))
-  one_page b' p' w' = ⊎_elim
-      (λ (e : first_of b' p' ss ≡ k). let one = first_of_one b p b' p' ss (sheet_in n ss ws b p w t) e in grind (arith, nat_tests))
-      (λ (ne : first_of b' p' ss ≡ k → ⊥). ⊎_elim
-      (λ (eb : b' ≡ b). ⊎_elim
-      (λ (ep : p' ≡ p). absurd (ne (ap₂ (λ c q. first_of c q ss) eb ep)))
-      (λ (np : p' ≡ p → ⊥). grind (arith, nat_tests))
-      (cases_eq p' p))
-      (λ (nb : b' ≡ b → ⊥). grind (arith, nat_tests))
-      (cases_eq b' b))
-      (cases_eq (first_of b' p' ss) k)
+  one_page b' p' w' = grind (arith, nat_tests, first_of_one, sheet_in)
 
   each : (b' p' w' : ℕ) → (sheet_meaning n ss' ws').word b' p' w' ≡ (programmed (sheet_meaning n ss ws) b p w v).word b' p' w'
   each b' p' w' =
-      let j = first_of b' p' ss in
-      ap (λ i. sheet_word ss' ws' i w') (first_opened b' p' ss k)
-      ∙ by_sheet ss ws k w v small (sheet_in n ss ws b p w t) (word_low n ss ws b p w t) (words_in n ss ws b p w t) j w'
-      ∙ ap (λ u. cond u (bit_and (sheet_word ss ws j w') v) (sheet_word ss ws j w')) (one_page b' p' w')
+      let here = first_opened b' p' ss k in
+      let word = by_sheet ss ws k w v small (sheet_in n ss ws b p w t) (word_low n ss ws b p w t) (words_in n ss ws b p w t) (first_of b' p' ss) w' in
+      let page = one_page b' p' w' in
+      grind (arith, nat_tests)
 
   long : length ws' ≡ length ws
-  long =
-      let os = words_opened (eqb (mark ss k) 0) ws k in
-      length-set os (place k w) (bit_and (get_or os (place k w) 0) v) ∙ length-words_opened (eqb (mark ss k) 0) ws k (words_in n ss ws b p w t)
+  long = grind (arith, length-set, length-words_opened, words_in)
 
   program_done : sheet_meaning n ss' ws' ≡ programmed (sheet_meaning n ss ws) b p w v
-  program_done = λ i. record {
-    count = blocks_same n ss ss' ws ws' (length-opened ss k) long i;
-    word = fun_ext (λ b'. fun_ext (λ p'. fun_ext (λ w'. each b' p' w'))) i;
-    dead_page = λ b' p'. not (ltb (first_opened b' p' ss k i) (length-opened ss k i));
-    dead_block = λ b'. false;
-  }
+  program_done = same_meaning _ _ (blocks_same n ss ss' ws ws' (length-opened ss k) long) each
+      (λ b' p'. ap₂ (λ f l. not (ltb f l)) (first_opened b' p' ss k) (length-opened ss k)) (λ b'. refl)
 
 -- the list after sheet i was opened
 opened_by : (ss : List Sheet) (i : ℕ) (s : Sheet) → s ≡ cond (eqb (mark ss i) 0) (written (get_or ss i no_sheet)) (get_or ss i no_sheet) → set ss i s ≡ opened ss i
-opened_by ss i s e = ap (set ss i) e ∙ ⊎_elim
-    (λ (t : eqb (mark ss i) 0 ≡ true). ap (set ss i) (cond-true _ _ _ t) ∙ sym (cond-true _ _ _ t))
-    (λ (t : eqb (mark ss i) 0 ≡ false). ap (set ss i) (cond-false _ _ _ t) ∙ set-get_or ss i no_sheet ∙ sym (cond-false _ _ _ t))
-    (cases_Bool (eqb (mark ss i) 0))
+opened_by ss i s e = grind (arith, nat_tests, set-get_or)
 
 pub programmed_is : (n : ℕ) (ss : List Sheet) (ws xs : List ℕ) (b p w v i : ℕ) (s : Sheet) → seat_of n ss ws b p w ≡ Some i
     → s ≡ cond (eqb (mark ss i) 0) (written (get_or ss i no_sheet)) (get_or ss i no_sheet) → xs ≡ word_stored (eqb (mark ss i) 0) ws i w v → v < 2 ^ 16
     → sheet_meaning n (set ss i s) xs ≡ after_program (sheet_meaning n ss ws) b p w v
-programmed_is n ss ws xs b p w v i s e es ew small =
-    let there : (programmable (sheet_meaning n ss ws) b p w ≡ true) × (first_of b p ss ≡ i) = ⊎_elim
-    (λ (t : programmable (sheet_meaning n ss ws) b p w ≡ true). let is = sym (cond-true _ _ _ t) ∙ e in (t, cc))
-    (λ (t : programmable (sheet_meaning n ss ws) b p w ≡ false). let is = sym (cond-false _ _ _ t) ∙ e in cc)
-    (cases_Bool (programmable (sheet_meaning n ss ws) b p w)) in
-    ap₂ (sheet_meaning n) (opened_by ss i s es) ew
-    ∙ ap (λ j. sheet_meaning n (opened ss j) (word_stored (eqb (mark ss j) 0) ws j w v)) (sym there.1)
-    ∙ program_done n ss ws b p w v small there.0
-    ∙ sym (cond-true _ _ _ there.0)
+programmed_is n ss ws xs b p w v i s e es ew small = grind (arith, nat_tests, opened_by, program_done)
 
 -- one mark more is cleared
 pub unmark_more : (b i : ℕ) (xs ys : List Sheet) (s : Sheet) → ys ≡ map (unmarked b) (take i xs) ++ drop i xs → i < length xs → length ys ≡ length xs → s ≡ unmarked b (get_or ys i no_sheet)
@@ -194,19 +132,12 @@ module _ (n : ℕ) (ss : List Sheet) (ws : List ℕ) (b : ℕ) where
       let marks = mark_unmarked b ss j in
       ap (λ i. sheet_word us ws i w') (first_unmarked b' p' b ss) ∙ ⊎_elim
       (λ (h : j < length ss). let is = first_is_of b' p' ss h in grind (arith, nat_tests))
-      (λ (h : length ss ≤ j). let none = ap (λ s. s.written) (get_or_past ss j no_sheet h) in grind (arith, nat_tests))
+      (λ (h : length ss ≤ j). let none = get_or_past ss j no_sheet h in grind (arith, nat_tests))
       (cases_lt j (length ss))
 
   erase_done : sheet_meaning n us ws ≡ erased (sheet_meaning n ss ws) b
-  erase_done = λ i. record {
-    count = blocks_same n ss us ws ws (length-map ss (unmarked b)) refl i;
-    word = fun_ext (λ b'. fun_ext (λ p'. fun_ext (λ w'. each_word b' p' w'))) i;
-    dead_page = λ b' p'. not (ltb (first_unmarked b' p' b ss i) (length-map ss (unmarked b) i));
-    dead_block = λ b'. false;
-  }
+  erase_done = same_meaning _ _ (blocks_same n ss us ws ws (length-map ss (unmarked b)) refl) each_word
+      (λ b' p'. ap₂ (λ f l. not (ltb f l)) (first_unmarked b' p' b ss) (length-map ss (unmarked b))) (λ b'. refl)
 
 pub erased_is : (n : ℕ) (ss ms : List Sheet) (ws : List ℕ) (b : ℕ) → ms ≡ sheets_erased n ss ws b → sheet_meaning n ms ws ≡ after_erase (sheet_meaning n ss ws) b
-erased_is n ss ms ws b e = ap (λ xs. sheet_meaning n xs ws) e ∙ ⊎_elim
-    (λ (t : erasable (sheet_meaning n ss ws) b ≡ true). ap (λ xs. sheet_meaning n xs ws) (cond-true _ _ _ t) ∙ erase_done n ss ws b ∙ sym (cond-true _ _ _ t))
-    (λ (t : erasable (sheet_meaning n ss ws) b ≡ false). ap (λ xs. sheet_meaning n xs ws) (cond-false _ _ _ t) ∙ sym (cond-false _ _ _ t))
-    (cases_Bool (erasable (sheet_meaning n ss ws) b))
+erased_is n ss ms ws b e = grind (arith, nat_tests, erase_done)

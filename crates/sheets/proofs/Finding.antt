@@ -1,7 +1,6 @@
 -- The first sheet of a page: a walk finds it, it is of that page, and marks do not move it.
-use Rattle.std.proofs.Common.{◌≡◌, ℕ, zero, suc, ◌<◌, true, false, cond, ltb, Some, None, List, [], ◌∷◌, map, length, get_or, set, sym, refl, ap, subst, ⊎_elim, arith}
+use Rattle.std.proofs.Common.{◌≡◌, ℕ, zero, suc, ◌<◌, true, cond, ltb, Some, None, List, [], ◌∷◌, map, length, get_or, set, refl, ap, arith}
 use Rattle.std.specs.List.{position_or_len, position}
-use Rattle.std.proofs.lemmas.Bool.{cond-true, cond-false, cases_Bool}
 use Rattle.std.proofs.lemmas.Bool.Decides.{nat_tests}
 use Rattle.sheets.specs.declared.Sheet.{Sheet}
 use Rattle.sheets.specs.Pages.{no_sheet, is_of, first_of, sheet_of}
@@ -11,10 +10,7 @@ use Rattle.sheets.specs.Contents.{unmarked}
 first_is_position : (b p : ℕ) (ss : List Sheet) → position_or_len (is_of b p) ss ≡ first_of b p ss
 unfolding first_of
 first_is_position b p [] = refl
-first_is_position b p (s ∷ ss) = ⊎_elim
-    (λ (e : is_of b p s ≡ true). grind (arith, nat_tests))
-    (λ (e : is_of b p s ≡ false). let more = first_is_position b p ss in grind (arith, nat_tests))
-    (cases_Bool (is_of b p s))
+first_is_position b p (s ∷ ss) = let more = first_is_position b p ss in grind (arith, nat_tests)
 
 pub found : (b p : ℕ) (ss : List Sheet) → position (is_of b p) ss ≡ sheet_of b p ss
 found b p ss = ap (λ k. cond (ltb k (length ss)) (Some k) None) (first_is_position b p ss)
@@ -23,14 +19,7 @@ found b p ss = ap (λ k. cond (ltb k (length ss)) (Some k) None) (first_is_posit
 pub first_is_of : (b p : ℕ) (ss : List Sheet) → first_of b p ss < length ss → is_of b p (get_or ss (first_of b p ss) no_sheet) ≡ true
 unfolding first_of
 first_is_of b p [] h = absurd (omega arith)
-first_is_of b p (s ∷ ss) h = ⊎_elim
-    (λ (e : is_of b p s ≡ true).
-    let here : first_of b p (s ∷ ss) ≡ 0 = cond-true (is_of b p s) 0 (suc (first_of b p ss)) e in
-    subst (λ (k : ℕ). is_of b p (get_or (s ∷ ss) k no_sheet) ≡ true) (sym here) e)
-    (λ (e : is_of b p s ≡ false).
-    let later : first_of b p (s ∷ ss) ≡ suc (first_of b p ss) = cond-false (is_of b p s) 0 (suc (first_of b p ss)) e in
-    subst (λ (k : ℕ). is_of b p (get_or (s ∷ ss) k no_sheet) ≡ true) (sym later) (first_is_of b p ss (omega arith)))
-    (cases_Bool (is_of b p s))
+first_is_of b p (s ∷ ss) h = let more = first_is_of b p ss in grind (arith, nat_tests)
 
 -- a sheet is the first of one page only
 pub first_of_one : (b p b' p' : ℕ) (ss : List Sheet) → first_of b p ss < length ss → first_of b' p' ss ≡ first_of b p ss → (b' ≡ b) × (p' ≡ p)

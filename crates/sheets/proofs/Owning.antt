@@ -1,10 +1,9 @@
 -- A list of sheets that passes the check has one sheet a page.
-use Rattle.std.proofs.Common.{◌≡◌, ℕ, zero, suc, ◌<◌, true, false, List, [], ◌∷◌, length, get_or, Some, None, ap, ◌∙◌, ⊎_elim, arith}
-use Rattle.std.proofs.lemmas.Bool.{cond-true, cond-false, cases_Bool}
+use Rattle.std.proofs.Common.{◌≡◌, ℕ, zero, suc, ◌<◌, true, false, List, [], ◌∷◌, length, get_or, arith}
 use Rattle.std.proofs.lemmas.Bool.Decides.{nat_tests}
 use Rattle.flash.specs.Geometry.{block_pages}
 use Rattle.sheets.specs.declared.Sheet.{Sheet}
-use Rattle.sheets.specs.Pages.{no_sheet, is_of, first_of, has_sheet}
+use Rattle.sheets.specs.Pages.{no_sheet, first_of, has_sheet}
 use Rattle.sheets.specs.Checks.{good_after, good_sheets}
 use Rattle.sheets.specs.Laws.{OwnsPage}
 use Rattle.sheets.proofs.Walks.{has_more}
@@ -18,37 +17,28 @@ record New (n : ℕ) (before ss : List Sheet) (k : ℕ) : Type 0 where
 
 new_here : (n : ℕ) (before : List Sheet) (s : Sheet) (ss : List Sheet) → good_after n before s ≡ true → New n before (s ∷ ss) 0
 unfolding first_of
-new_here n before s ss g =
-    let self : is_of s.block s.page s ≡ true = grind (arith, nat_tests) in
-    record {
-      block = grind (arith, nat_tests);
-      page = grind (arith, nat_tests);
-      first = cond-true (is_of s.block s.page s) 0 (suc (first_of s.block s.page ss)) self;
-      fresh = grind (arith, nat_tests);
-    }
+new_here n before s ss g = record {
+  block = grind (arith, nat_tests);
+  page = grind (arith, nat_tests);
+  first = grind (arith, nat_tests);
+  fresh = grind (arith, nat_tests);
+}
 
 new_later : (n : ℕ) (before : List Sheet) (s : Sheet) (ss : List Sheet) (k : ℕ) → New n (s ∷ before) ss k → New n before (s ∷ ss) (suc k)
 unfolding first_of
 new_later n before s ss k r =
-    let b = (get_or ss k no_sheet).block in
-    let p = (get_or ss k no_sheet).page in
-    let more = has_more b p s before in
-    let fresh = r.fresh in
-    let other : is_of b p s ≡ false = grind (arith, nat_tests) in
+    let more = has_more (get_or ss k no_sheet).block (get_or ss k no_sheet).page s before in
     record {
       block = r.block;
       page = r.page;
-      first = cond-false (is_of b p s) 0 (suc (first_of b p ss)) other ∙ ap suc r.first;
+      first = grind (arith, nat_tests);
       fresh = grind (arith, nat_tests);
     }
 
 all_good : (n : ℕ) (before : List Sheet) (s : Sheet) (ss : List Sheet) → good_sheets n before (s ∷ ss) ≡ length (s ∷ ss)
     → (good_after n before s ≡ true) × (good_sheets n (s ∷ before) ss ≡ length ss)
 unfolding good_sheets
-all_good n before s ss e = ⊎_elim
-    (λ (g : good_after n before s ≡ true). let z = cond-true (good_after n before s) (suc (good_sheets n (s ∷ before) ss)) 0 g in (g, omega arith))
-    (λ (g : good_after n before s ≡ false). let z = cond-false (good_after n before s) (suc (good_sheets n (s ∷ before) ss)) 0 g in absurd (omega arith))
-    (cases_Bool (good_after n before s))
+all_good n before s ss e = (grind (arith, nat_tests), grind (arith, nat_tests))
 
 all_new : (n : ℕ) (before ss : List Sheet) → good_sheets n before ss ≡ length ss → (k : ℕ) → k < length ss → New n before ss k
 all_new n before [] e k h = absurd (omega arith)
@@ -58,11 +48,4 @@ all_new n before (s ∷ ss) e (suc k) h = new_later n before s ss k (all_new n (
 pub pages_owned : (n : ℕ) (ss : List Sheet) → good_sheets n [] ss ≡ length ss → (k : ℕ) → k < length ss → OwnsPage n ss k
 pages_owned n ss e k l =
     let r = all_new n [] ss e k l in
-    let b = (get_or ss k no_sheet).block in
-    let p = (get_or ss k no_sheet).page in
-    let has : has_sheet b p ss ≡ true = let f = r.first in grind (arith, nat_tests) in
-    record {
-      block = r.block;
-      page = r.page;
-      first = cond-true (has_sheet b p ss) (Some (first_of b p ss)) None has ∙ ap Some r.first;
-    }
+    record { block = r.block; page = r.page; first = grind (arith, nat_tests) }

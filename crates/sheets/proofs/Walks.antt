@@ -1,7 +1,7 @@
 -- The check's walk over the sheets, by the scratch and by the sheets alone.
-use Rattle.std.proofs.Common.{◌≡◌, ℕ, suc, ◌+◌, ◌*◌, ◌<◌, ◌≤◌, Bool, true, false, cond, ◌&&◌, eqb, ltb, List, [], ◌∷◌, length, get_or, take, drop, set, Ok, Err, is_ok, sym, refl, ap, ap₂, ◌∙◌, ⊎_elim, arith}
+use Rattle.std.proofs.Common.{◌≡◌, ℕ, ◌+◌, ◌*◌, ◌<◌, ◌≤◌, Bool, true, false, cond, eqb, List, [], ◌∷◌, length, get_or, take, drop, set, Ok, Err, is_ok, sym, refl, ap, ap₂, ◌∙◌, ⊎_elim, arith}
 use Rattle.std.proofs.lemmas.List.{at_drop_more, at_drop_all, length-set, get_or-set_same, get_or-set_other}
-use Rattle.std.proofs.lemmas.Bool.{cond-true, cond-false, cases_Bool, cases_eq}
+use Rattle.std.proofs.lemmas.Bool.{cond-true, cond-false, cases_Bool}
 use Rattle.std.proofs.lemmas.Bool.Decides.{nat_tests}
 use Rattle.flash.specs.Geometry.{block_pages}
 use Rattle.flash.proofs.Runs.{get_or-filled, length-filled}
@@ -54,10 +54,7 @@ Shows n before t = (b p : ℕ) → b < n → p < block_pages → get_or t (b * b
 
 pub has_more : (b p : ℕ) (s : Sheet) (ss : List Sheet) → has_sheet b p (s ∷ ss) ≡ cond (is_of b p s) true (has_sheet b p ss)
 unfolding first_of
-has_more b p s ss = ⊎_elim
-    (λ (e : is_of b p s ≡ true). let z = cond-true (is_of b p s) 0 (suc (first_of b p ss)) e in grind (arith, nat_tests))
-    (λ (e : is_of b p s ≡ false). let z = cond-false (is_of b p s) 0 (suc (first_of b p ss)) e in grind (arith, nat_tests))
-    (cases_Bool (is_of b p s))
+has_more b p s ss = grind (arith, nat_tests)
 
 shows_none : (n : ℕ) (t : List ℕ) → n * block_pages ≤ length t → Shows n [] (cleared n t)
 unfolding first_of
@@ -67,45 +64,26 @@ shows_more : (n : ℕ) (before : List Sheet) (t : List ℕ) (s : Sheet) → n * 
 shows_more n before t s long g shows b p hb hp =
     let more = has_more b p s before in
     let was = shows b p hb hp in
-    let within : byte_of s < length t = grind (arith, nat_tests) in
-    let low : s.page < block_pages = grind (arith, nat_tests) in
-    ⊎_elim
-    (λ (e : b * block_pages + p ≡ byte_of s). let here = ap (λ i. get_or (set t (byte_of s) 1) i 0) e ∙ get_or-set_same t (byte_of s) 1 0 within in grind (arith, nat_tests))
-    (λ (ne : b * block_pages + p ≡ byte_of s → ⊥). let other = get_or-set_other t (byte_of s) (b * block_pages + p) 1 0 ne in grind (arith, nat_tests))
-    (cases_eq (b * block_pages + p) (byte_of s))
+    grind (arith, nat_tests, get_or-set_same, get_or-set_other)
 
 same_test : (n : ℕ) (before : List Sheet) (t : List ℕ) (s : Sheet) → Shows n before t → good_now n t s ≡ good_after n before s
-same_test n before t s shows = ⊎_elim
-    (λ (r : (ltb s.block n && ltb s.page block_pages) ≡ true). let e = shows s.block s.page (grind (arith, nat_tests)) (grind (arith, nat_tests)) in grind (arith, nat_tests))
-    (λ (r : (ltb s.block n && ltb s.page block_pages) ≡ false). grind (arith, nat_tests))
-    (cases_Bool (ltb s.block n && ltb s.page block_pages))
+same_test n before t s shows = grind (arith, nat_tests, shows)
 
 -- what the walk gives, by how many sheets are good
 abbrev given : ℕ → List Sheet → List ℕ → Bool × List ℕ
 given k ss t = (eqb k (length ss), marked (take k ss) t)
 
-given_more : (k : ℕ) (s : Sheet) (ss : List Sheet) (t : List ℕ) → given k ss (set t (byte_of s) 1) ≡ given (suc k) (s ∷ ss) t
-unfolding marked
-given_more k s ss t = let e : eqb k (length ss) ≡ eqb (suc k) (suc (length ss)) = grind (arith, nat_tests) in ap (λ x. (x, marked (take k ss) (set t (byte_of s) 1))) e
-
-given_none : (s : Sheet) (ss : List Sheet) (t : List ℕ) → (false, t) ≡ given 0 (s ∷ ss) t
-unfolding marked
-given_none s ss t = let e : false ≡ eqb 0 (suc (length ss)) = grind (arith, nat_tests) in ap (λ x. (x, t)) e
-
 walk_is : (n : ℕ) (before ss : List Sheet) (t : List ℕ) → n * block_pages ≤ length t → Shows n before t → walked n ss t ≡ given (good_sheets n before ss) ss t
 unfolding walked good_sheets marked
 walk_is n before [] t long shows = refl
-walk_is n before (s ∷ ss) t long shows = ⊎_elim
+walk_is n before (s ∷ ss) t long shows =
+    let test = same_test n before t s shows in
+    ⊎_elim
     (λ (g : good_after n before s ≡ true).
-    let more : good_sheets n before (s ∷ ss) ≡ suc (good_sheets n (s ∷ before) ss) = cond-true _ _ _ g in
-    let longer : n * block_pages ≤ length (set t (byte_of s) 1) = let e = length-set t (byte_of s) 1 in omega arith in
-    cond-true _ _ _ (same_test n before t s shows ∙ g)
-    ∙ walk_is n (s ∷ before) ss (set t (byte_of s) 1) longer (shows_more n before t s long g shows)
-    ∙ given_more (good_sheets n (s ∷ before) ss) s ss t
-    ∙ sym (ap (λ k. given k (s ∷ ss) t) more))
-    (λ (g : good_after n before s ≡ false).
-    let none : good_sheets n before (s ∷ ss) ≡ 0 = cond-false _ _ _ g in
-    cond-false _ _ _ (same_test n before t s shows ∙ g) ∙ given_none s ss t ∙ sym (ap (λ k. given k (s ∷ ss) t) none))
+    let longer = length-set t (byte_of s) 1 in
+    let more = walk_is n (s ∷ before) ss (set t (byte_of s) 1) (omega arith) (shows_more n before t s long g shows) in
+    grind (arith, nat_tests))
+    (λ (g : good_after n before s ≡ false). grind (arith, nat_tests))
     (cases_Bool (good_after n before s))
 
 pub walk_cleared : (n : ℕ) (ss : List Sheet) (t : List ℕ) → n * block_pages ≤ length t

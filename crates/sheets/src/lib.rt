@@ -57,14 +57,21 @@ impl Sheet {
         fresh
     }
 
+    // The byte of the sheet's page in the scratch.
+    fn byte(self) -> usize
+        ensures { result ≡ byte_of self }
+    {
+        self.block as usize * BLOCK_PAGES + self.page as usize
+    }
+
     // Whether the sheet's page is in the array and not marked in the scratch.
     fn is_good(self, count: usize, scratch: &[u8]) -> bool
         requires { count * block_pages ≤ length scratch.now }
         ensures { result ≡ good_now count scratch.now self }
     {
-        let block = self.block as usize;
-        let page = self.page as usize;
-        block < count && page < BLOCK_PAGES && scratch[block * BLOCK_PAGES + page] == 0
+        (self.block as usize) < count
+            && (self.page as usize) < BLOCK_PAGES
+            && scratch[self.byte()] == 0
     }
 
     // Marks the sheet's page in the scratch, if it is good.
@@ -76,7 +83,7 @@ impl Sheet {
         if !self.is_good(count, scratch) {
             return Err(SheetFault::Page);
         }
-        scratch[self.block as usize * BLOCK_PAGES + self.page as usize] = 1;
+        scratch[self.byte()] = 1;
         Ok(())
     }
 }
