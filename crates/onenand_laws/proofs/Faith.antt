@@ -33,7 +33,7 @@ use Rattle.onenand_rules.specs.Reads.{shown}
 use Rattle.onenand_rules.specs.Writes.{plan_for, stored}
 use Rattle.onenand_rules.specs.Ticks.{succeeds, array_after, registers_after, acted, closed, ticked}
 use Rattle.onenand_rules.specs.Steps.{step}
-use Rattle.onenand_laws.specs.Observer.{word_in, peek, Underway, none, started, longer, underway_after, Moment, next, reaches, drops}
+use Rattle.onenand_laws.specs.Observer.{word_in, peek, Underway, none, started, Moment, next, reaches, drops}
 use Rattle.onenand_laws.specs.Promise.{Reads, Clear, is_load, is_program, is_changing, part_of, count, block, page, place, Loaded, Programmed, Copied, Erased, Faithful, Ends, Calm, Still}
 use Rattle.onenand_laws.proofs.Words.{buffer_word_below, size_some, place_of_address}
 use Rattle.onenand_laws.proofs.Tight.{stays_tight}
@@ -61,16 +61,10 @@ peeks_data s x l e = ap word_in (reads_data s x l e)
 
 -- the code words
 program_code : (c : ℕ) → is_program c ≡ true → command_of c ≡ Program (part_of c)
-program_code c h = ⊎_elim
-    (λ (e : eqb c 0x0080 ≡ true). subst (λ x. command_of x ≡ Program (part_of x)) (sym (eqb-true c 0x0080 e)) refl)
-    (λ (e : eqb c 0x001A ≡ true). subst (λ x. command_of x ≡ Program (part_of x)) (sym (eqb-true c 0x001A e)) refl)
-    (or_cases (eqb c 0x0080) (eqb c 0x001A) h)
+program_code c h = grind (arith, eqb-true, or_cases)
 
 load_code : (c : ℕ) → is_load c ≡ true → command_of c ≡ Load (part_of c)
-load_code c h = ⊎_elim
-    (λ (e : eqb c 0x0000 ≡ true). subst (λ x. command_of x ≡ Load (part_of x)) (sym (eqb-true c 0x0000 e)) refl)
-    (λ (e : eqb c 0x0013 ≡ true). subst (λ x. command_of x ≡ Load (part_of x)) (sym (eqb-true c 0x0013 e)) refl)
-    (or_cases (eqb c 0x0000) (eqb c 0x0013) h)
+load_code c h = grind (arith, eqb-true, or_cases)
 
 -- a plan that was made in a state: it fails, or it is the one intended
 plan_from : (from : State) (q : Cmd) (P : Plan → Type 0) → ((f : Fault) (d : Kind) → P (Fails f d)) → P (intended from.core.registers.operands q) →
@@ -340,10 +334,7 @@ still t h (c ∷ cs) b p w e k = let q = calm_head c cs k in let o = one_call t 
 
 -- ticks alone bring a command to its end
 next_tick : (t : Moment) → Sound t → (from : State) (c k : ℕ) → t.underway ≡ started from c k → ((next t Tick).underway ≡ started from c (k + 1)) ⊎ ((next t Tick).underway ≡ none)
-next_tick t h from c k e = ⊎_elim
-    (λ x. inl (ap (underway_after t.underway t.chip Tick) x ∙ ap longer e))
-    (λ x. inr (ap (underway_after t.underway t.chip Tick) x))
-    (on_or_ended t.chip from c k (held t h from c k e))
+next_tick t h from c k e = grind (arith, on_or_ended, held)
 
 ends_in : (n : ℕ) (t : Moment) → Sound t → (from : State) (c k : ℕ) → t.underway ≡ started from c k → ticks_of (plan_for from c) ≤ k + n →
     (x : ℕ) × (x ≤ n) × ((reaches t (replicate x Tick)).underway ≡ none)

@@ -286,13 +286,7 @@ ruled n (VerifyPage b p) t = t
 ruled n (SetLocks p) t = protected n p.lock p.first p.last t
 
 action_ruled : (n : ℕ) (a : Action) (d : List Lock) → length d ≡ max_blocks → n ≤ max_blocks → ruled n a (lock_at d) ≡ lock_at (locks_after n a d)
-action_ruled n Fail d e h = refl
-action_ruled n Wait d e h = refl
-action_ruled n (LoadWord f i) d e h = refl
-action_ruled n (ProgramWord f i) d e h = refl
-action_ruled n (EraseBlock b) d e h = refl
-action_ruled n (VerifyPage b p) d e h = refl
-action_ruled n (SetLocks p) d e h = sym (table n p.lock p.first p.last d e h)
+action_ruled n a d h e = grind (arith, table)
 
 -- a command's end makes of the block states what its action does
 ended_ruled : (l : ℕ → Lock) (o : Operands) (n n' k : ℕ) (t : ℕ → Lock) (q : Cmd) → locks_ended n q o.first o.last t ≡ ruled n (action_of (planned l o n' q) k) t
@@ -313,9 +307,7 @@ programmed_same : (m : Meaning) (b p w v : ℕ) → (programmed m b p w v).word 
 programmed_same m b p w v = cond-true (eqb b b && (eqb p p && eqb w w)) _ _ (and_from _ _ (eqb_self b) (and_from _ _ (eqb_self p) (eqb_self w)))
 
 programmed_other : (m : Meaning) (b p w v x y z : ℕ) → (x ≡ b → y ≡ p → z ≡ w → ⊥) → (programmed m b p w v).word x y z ≡ m.word x y z
-programmed_other m b p w v x y z n = cond_both (eqb x b && (eqb y p && eqb z w)) _ _ (λ q. q ≡ m.word x y z)
-    (λ e. let f = and_parts (eqb x b) _ e in let g = and_parts (eqb y p) _ f.1 in absurd (n (eqb-true x b f.0) (eqb-true y p g.0) (eqb-true z w g.1)))
-    (λ _. refl)
+programmed_other m b p w v x y z h = grind (arith, and_parts, eqb-true)
 
 module _ (old m : Meaning) (t : Transfer) (v : ℕ → ℕ) (k : ℕ) (l : k < words t) (h : Anded old t v k m) (x : ℕ) (e : x ≡ v k) where
   abbrev spot : ℕ → ℕ
@@ -356,10 +348,7 @@ module _ (s : State) (t : Transfer) (k : ℕ) (z : length s.core.dataram ≡ 105
       (λ y. let e = buffer_word_same t.part t.buffer i k (omega arith) l y in omega arith)
 
   loaded_more : (v : ℕ → ℕ) → v k ≡ array_word s.array t k → ((i : ℕ) → i < k → data_word s.core.dataram t i ≡ v i) → (i : ℕ) → i < k + 1 → data_word data_more t i ≡ v i
-  loaded_more v e h i q = ⊎_elim
-      (λ (y : i ≡ k). subst (λ j. data_word data_more t j ≡ v j) (sym y) (loaded_here ∙ sym e))
-      (λ (n : i ≡ k → ⊥). loaded_before i (omega arith) ∙ h i (omega arith))
-      (cases_eq i k)
+  loaded_more v h e i f = grind (arith, loaded_here, loaded_before, cases_eq)
 
 -- a copy-back loads a word, while the array is still the one that it began with, and later programs it
 module _ (from s : State) (f t : Transfer) (k : ℕ) (r : Registers) (u : Running) (z : length s.core.dataram ≡ 1056) (h : CopiesSoFar from f t k s) where

@@ -1,5 +1,5 @@
 -- Tight blocks stay tight, and the chip's table of block states follows the rules of protection for every block.
-use Rattle.std.proofs.Common.{◌≡◌, ℕ, zero, suc, ◌+◌, ◌-◌, ◌<◌, ◌≤◌, Bool, true, false, cond, ◌&&◌, ltb, leb, ◌⊎◌, List, map, length, sym, refl, ap, ◌∙◌, inl, inr, ⊎_elim, arith}
+use Rattle.std.proofs.Common.{◌≡◌, ℕ, zero, suc, ◌+◌, ◌-◌, ◌<◌, ◌≤◌, Bool, true, false, cond, ◌&&◌, ltb, leb, ◌⊎◌, List, map, length, sym, refl, ap, ◌∙◌, ⊎_elim, arith}
 use mathlib.Core.Path.{fun_ext}
 use Rattle.std.specs.List.{range_with_len}
 use Rattle.std.proofs.lemmas.Bool.{cond_both, cond-false, cases_lt, cases_eq, or_left, or_right, and_parts, leb-true, ltb-true, lt-leb, and_right, not-true, both_ways}
@@ -10,12 +10,11 @@ use Rattle.onenand_protection.specs.declared.Lock.{Lock}
 use Rattle.onenand_protection.specs.declared.Lock.TheVariants.{Locked, Unlocked, Tight}
 use Rattle.onenand_protection.specs.Protection.{is_tight, lock_at, in_range, tight_among, hindered, obeyed, locks_made, protected, table_made, table_after}
 use Rattle.onenand_rules.specs.declared.calls.Call.{Call}
-use Rattle.onenand_rules.specs.declared.calls.Call.TheVariants.{Read, Write, Tick, Warm, Cold}
+use Rattle.onenand_rules.specs.declared.calls.Call.TheVariants.{Warm, Cold}
 use Rattle.onenand_rules.specs.declared.commands.Command.{Command}
 use Rattle.onenand_rules.specs.declared.commands.Command.TheVariants.{Load, Program, CopyBack, Erase, Verify, Protect, Reset, Unknown}
-use Rattle.onenand_rules.specs.Commands.{command_of}
-use Rattle.onenand_rules.specs.Calls.{Reply, word, done, tick, refused}
-use Rattle.onenand_laws.specs.Observer.{peek, Underway, none, started, locks_ended, locks_by, locks_after_call, Moment, next}
+use Rattle.onenand_rules.specs.Calls.{Reply}
+use Rattle.onenand_laws.specs.Observer.{Underway, locks_ended, locks_by, locks_after_call, Moment, next}
 
 -- a tight block among the k from a on is found
 found : (t : ℕ → Lock) (b k a : ℕ) → t b ≡ Tight → a ≤ b → b < a + k → tight_among t a k ≡ true
@@ -56,19 +55,10 @@ module _ (n a z b : ℕ) (t : ℕ → Lock) (h : t b ≡ Tight) where
   ended_tight Unknown = h
 
 by_tight : (n : ℕ) (u : Underway) (t : ℕ → Lock) (b : ℕ) → t b ≡ Tight → locks_by n u t b ≡ Tight
-by_tight n none t b h = h
-by_tight n (started from c k) t b h = ended_tight n (peek from 0xF24C) (peek from 0xF24D) b t h (command_of c)
+by_tight n u t b h = grind (arith, ended_tight)
 
 call_tight : (n : ℕ) (u : Underway) (t : ℕ → Lock) (b : ℕ) → t b ≡ Tight → (c : Call) (r : Reply) → (locks_after_call n u t c r b ≡ Tight) ⊎ ((c ≡ Warm) ⊎ (c ≡ Cold))
-call_tight n u t b h (Read a) r = inl h
-call_tight n u t b h (Write a w) r = inl h
-call_tight n u t b h Tick (word w) = inl h
-call_tight n u t b h Tick done = inl h
-call_tight n u t b h Tick (tick zero) = inl (by_tight n u t b h)
-call_tight n u t b h Tick (tick (suc i)) = inl h
-call_tight n u t b h Tick (refused i) = inl h
-call_tight n u t b h Warm r = inr (inl refl)
-call_tight n u t b h Cold r = inr (inr refl)
+call_tight n u t b h c r = grind (arith, by_tight)
 
 -- a tight block stays tight until a warm or cold reset
 pub stays_tight : (t : Moment) (c : Call) (b : ℕ) → t.lock b ≡ Tight → ((next t c).lock b ≡ Tight) ⊎ ((c ≡ Warm) ⊎ (c ≡ Cold))
