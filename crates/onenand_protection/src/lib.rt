@@ -103,7 +103,7 @@ impl Protection {
         }
     }
 
-    // Puts the command to the states of n blocks: says whether it was obeyed.
+    // Puts the command to the states of n blocks: says whether it was obeyed. One that is ignored does not fail.
     pub fn apply(self, locks: &mut [Lock], n: usize) -> bool
         ensures value { result ≡ obeyed n self.lock self.first self.last (lock_at locks.old) }
         ensures locks { locks.new ≡ table_after n self.lock self.first self.last locks.old }

@@ -11,12 +11,12 @@ use Rattle.onenand_rules.specs.declared.plans.Plan.{Plan}
 use Rattle.onenand_rules.specs.declared.plans.Plan.TheVariants.{Fails, Loads, Programs, Copies, Erases, Verifies, Protects, Resets}
 use Rattle.onenand_rules.specs.declared.plans.Running.TheVariants.{Runs}
 use Rattle.onenand_rules.specs.declared.plans.Action.{Action}
-use Rattle.onenand_rules.specs.declared.plans.Action.TheVariants.{LoadWord, ProgramWord}
+use Rattle.onenand_rules.specs.declared.plans.Action.TheVariants.{Wait, LoadWord, ProgramWord, EraseBlock}
 use Rattle.onenand_rules.specs.Plans.{ticks_of, action_of}
 use Rattle.onenand_rows.specs.declared.Way.{Way}
 use Rattle.onenand_rows.specs.declared.Way.TheVariants.{Load, Program}
 use Rattle.onenand_rows.specs.declared.Row.{Row}
-use Rattle.onenand_rows.specs.Rows.{left, row_length, row_from, row_at, row_of, is_along, Suits}
+use Rattle.onenand_rows.specs.Rows.{left, row_length, row_from, row_at, row_by, row_of, is_along, Suits}
 
 -- what moves word i of a transfer
 abbrev pub moves : Way → Transfer → ℕ → Action
@@ -112,9 +112,9 @@ begun : (p : Plan) (k : ℕ) → Led (row_of (Runs p k)) p
 begun (Fails f d) k = tt
 begun (Loads t) k = row_led (Loads t) Load t k k (λ o h. refl) (λ o h. before_end t.part t.buffer k o h)
 begun (Programs t) k = row_led (Programs t) Program t k k (λ o h. refl) (λ o h. before_end t.part t.buffer k o h)
-begun (Copies from to) k = cond_both (ltb k (words from)) _ _ (λ (r : Option Row). Led r (Copies from to))
+begun (Copies from to) k = cond_both (ltb k (words from)) (LoadWord from k) (ProgramWord to (k - words from)) (λ (a : Action). Led (row_by a k) (Copies from to))
     (λ e. loads from to k (ltb-true k (words from) e)) (λ e. programs from to k (ltb-false k (words from) e))
-begun (Erases b) k = tt
+begun (Erases b) k = cond_both (ltb k 63) Wait (EraseBlock b) (λ (a : Action). Led (row_by a k) (Erases b)) (λ e. tt) (λ e. tt)
 begun (Verifies b) k = tt
 begun (Protects p) k = tt
 begun (Resets r) k = tt

@@ -5,9 +5,11 @@ use Rattle.onenand_transfer.specs.declared.Part.{Part}
 use Rattle.onenand_transfer.specs.declared.Part.TheVariants.{Whole, Spare}
 use Rattle.onenand_transfer.specs.declared.Transfer.{Transfer}
 use Rattle.onenand_transfer.specs.Transfers.{words, page_of, page_word, buffer_word}
-use Rattle.onenand_rules.specs.declared.plans.Plan.TheVariants.{Fails, Loads, Programs, Copies, Erases, Verifies, Protects, Resets}
 use Rattle.onenand_rules.specs.declared.plans.Running.{Running}
 use Rattle.onenand_rules.specs.declared.plans.Running.TheVariants.{Idle, Runs}
+use Rattle.onenand_rules.specs.declared.plans.Action.{Action}
+use Rattle.onenand_rules.specs.declared.plans.Action.TheVariants.{Fail, Wait, LoadWord, ProgramWord, EraseBlock, VerifyPage, SetLocks}
+use Rattle.onenand_rules.specs.Plans.{action_of}
 use Rattle.onenand_rows.specs.declared.Way.{Way}
 use Rattle.onenand_rows.specs.declared.Way.TheVariants.{Load, Program}
 use Rattle.onenand_rows.specs.declared.Row.{Row}
@@ -37,17 +39,20 @@ row_from way t i k = record {
 abbrev pub row_at : Way → Transfer → ℕ → ℕ → Option Row
 row_at way t i k = cond (row_length t i == 0) None (Some (row_from way t i k))
 
+-- the row that tick k begins, by what it does
+abbrev pub row_by : Action → ℕ → Option Row
+row_by Fail k = None
+row_by Wait k = None
+row_by (LoadWord t i) k = row_at Load t i k
+row_by (ProgramWord t i) k = row_at Program t i k
+row_by (EraseBlock b) k = None
+row_by (VerifyPage b p) k = None
+row_by (SetLocks p) k = None
+
 -- the row that the next tick begins
 abbrev pub row_of : Running → Option Row
 row_of Idle = None
-row_of (Runs (Fails f d) k) = None
-row_of (Runs (Loads t) k) = row_at Load t k k
-row_of (Runs (Programs t) k) = row_at Program t k k
-row_of (Runs (Copies from to) k) = cond (nat_lt k (words from)) (row_at Load from k k) (row_at Program to (k - words from) k)
-row_of (Runs (Erases b) k) = None
-row_of (Runs (Verifies b) k) = None
-row_of (Runs (Protects p) k) = None
-row_of (Runs (Resets r) k) = None
+row_of (Runs p k) = row_by (action_of p k) k
 
 -- tick k moves a word of the row
 abbrev pub is_along : Row → ℕ → Bool

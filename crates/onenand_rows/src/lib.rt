@@ -6,7 +6,7 @@ ghost use Rattle.std.specs.Prelude.{◌≡◌, ◌+◌};
 ghost use Rattle.onenand_rows.specs.Rows.{row_length, row_at, row_of, is_along, location_of, Suits};
 
 use flash::Location;
-use onenand_rules::plans::{Plan, Running};
+use onenand_rules::plans::{Action, Running};
 use onenand_transfer::{Part, Transfer};
 
 // Which way the words of a row move.
@@ -57,7 +57,7 @@ impl Row {
             from: k,
             length,
             block: t.block,
-            page: t.page / 4,
+            page: t.page_number(),
             word: t.page_word(i) as u16,
             data: t.buffer_word(i) as u16,
         })
@@ -68,17 +68,12 @@ impl Row {
         ensures value { result ≡ row_of running }
         ensures suits { Suits result running }
     {
-        match running {
-            Running::Runs(Plan::Loads(t), k) => Row::at(Way::Load, t, k, k),
-            Running::Runs(Plan::Programs(t), k) => Row::at(Way::Program, t, k, k),
-            Running::Runs(Plan::Copies(from, to), k) => {
-                let n = from.words();
-                if k < n {
-                    Row::at(Way::Load, from, k, k)
-                } else {
-                    Row::at(Way::Program, to, k - n, k)
-                }
-            }
+        let Running::Runs(plan, k) = running else {
+            return None;
+        };
+        match plan.action(k) {
+            Action::LoadWord(t, i) => Row::at(Way::Load, t, i, k),
+            Action::ProgramWord(t, i) => Row::at(Way::Program, t, i, k),
             _ => None,
         }
     }

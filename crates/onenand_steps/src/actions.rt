@@ -19,7 +19,7 @@ fn location(t: Transfer, i: u16) -> Location
 {
     Location {
         block: t.block as usize,
-        page: t.page as usize / 4,
+        page: t.page_number() as usize,
         word: t.page_word(i),
     }
 }

@@ -2,7 +2,7 @@
 #![tactic(auto)]
 
 ghost use Rattle.std.specs.Prelude.{◌≡◌, ℕ, ◌/◌, ◌%◌, ◌^◌, ◌<◌, ◌≤◌};
-ghost use Rattle.onenand_transfer.specs.Transfers.{words as word_count, counted, sector_word, buffer_sector, page_word, buffer_word, sector_of, chosen};
+ghost use Rattle.onenand_transfer.specs.Transfers.{words as word_count, counted, sector_word, buffer_sector, page_of, page_word, buffer_word, sector_of, chosen};
 
 // Words of a sector: main words, then spare words.
 const MAIN: usize = 256;
@@ -83,6 +83,13 @@ impl Transfer {
             Part::Whole => SECTOR as u16 * sectors,
             Part::Spare => SPARE as u16 * sectors,
         }
+    }
+
+    // The page that its words are of.
+    pub fn page_number(self) -> u16
+        ensures { result ≡ page_of self.page }
+    {
+        self.page / 4
     }
 
     // Where word i that moves stands in its page.
