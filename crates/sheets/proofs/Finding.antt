@@ -1,19 +1,20 @@
 -- The first sheet of a page: a walk finds it, it is of that page, and marks do not move it.
-use Rattle.std.proofs.Common.{◌≡◌, ℕ, zero, suc, ◌<◌, true, cond, ltb, Some, None, List, [], ◌∷◌, map, length, get_or, set, refl, ap, arith}
+use Rattle.std.proofs.Common.{◌≡◌, ℕ, zero, suc, ◌<◌, true, cond, List, [], ◌∷◌, map, length, get_or, set, refl, ap, arith}
 use Rattle.std.specs.List.{position_or_len, position}
 use Rattle.std.proofs.lemmas.Bool.Decides.{nat_tests}
+use Rattle.flash.specs.Geometry.{block_pages, page_words}
 use Rattle.sheets.specs.declared.Sheet.{Sheet}
-use Rattle.sheets.specs.Pages.{no_sheet, is_of, first_of, sheet_of}
-use Rattle.sheets.specs.Contents.{unmarked}
+use Rattle.sheets.specs.Pages.{no_sheet, is_of, first_of}
+use Rattle.sheets.specs.Contents.{blocks, seat_of, unmarked}
 
--- the place of the first sheet of a page is where the library's search stops
+-- the library's search stops at the first sheet of a page, which is the one that has the page's words
 first_is_position : (b p : ℕ) (ss : List Sheet) → position_or_len (is_of b p) ss ≡ first_of b p ss
 unfolding first_of
 first_is_position b p [] = refl
 first_is_position b p (s ∷ ss) = let more = first_is_position b p ss in grind (arith, nat_tests)
 
-pub found : (b p : ℕ) (ss : List Sheet) → position (is_of b p) ss ≡ sheet_of b p ss
-found b p ss = ap (λ k. cond (ltb k (length ss)) (Some k) None) (first_is_position b p ss)
+pub found : (n : ℕ) (ss : List Sheet) (ws : List ℕ) (b p w : ℕ) → b < blocks n ss ws → p < block_pages → w < page_words → position (is_of b p) ss ≡ seat_of n ss ws b p w
+found n ss ws b p w hb hp hw = let first = first_is_position b p ss in grind (arith, nat_tests)
 
 -- the sheet that is found is of the page
 pub first_is_of : (b p : ℕ) (ss : List Sheet) → first_of b p ss < length ss → is_of b p (get_or ss (first_of b p ss) no_sheet) ≡ true
