@@ -7,7 +7,6 @@ ghost use Rattle.onenand_laws.specs.Promise.{Promise};
 ghost use Rattle.onenand_rules.specs.declared.calls.Call.{Call};
 ghost use Rattle.onenand_rules.specs.declared.calls.Call.TheVariants.{Tick as tick_call, Warm as warm_call, Cold as cold_call};
 ghost use Rattle.onenand_rules.specs.declared.plans.Running.TheVariants.{Runs as runs_on};
-ghost use Rattle.onenand_rules.specs.State.{state_for};
 ghost use Rattle.onenand_rules.specs.Calls.{tick_number, tick_reply, tick as tick_of};
 ghost use Rattle.onenand_rules.specs.Ticks.{ticked};
 ghost use Rattle.onenand_rules.specs.Resets.{powered_up};
@@ -35,14 +34,6 @@ pub struct Chip<D: Array> {
     ghost suits: { Suits row core.running },
 }
 
-// Power comes on over an array: what the chip holds then. The array stays as it is.
-fn power_on<D: Array>(array: &mut D, device: u16, version: u16) -> Core
-    ensures state { state_for result (D.meaning array.new) ≡ powered_up device version (D.meaning array.old) }
-    ensures promise { (calls : List Call) → Promise device version (D.meaning array.old) calls }
-{
-    core_over(array, device, version)
-}
-
 impl<D: Array> Chip<D> {
     ghost use Rattle.onenand.specs.Chips.{state_of};
 
@@ -51,7 +42,7 @@ impl<D: Array> Chip<D> {
         ensures state { state_of result ≡ powered_up device version (D.meaning array) }
         ensures promise { (calls : List Call) → Promise device version (D.meaning array) calls }
     {
-        let core = power_on(&mut array, device, version);
+        let core = core_over(&mut array, device, version);
         let row = Row::of(core.running);
         Chip { array, core, row }
     }
@@ -132,7 +123,7 @@ impl<D: Array> Chip<D> {
     pub fn cold(&mut self)
         ensures state { state_of self.new ≡ (step (state_of self.old) cold_call).0 }
     {
-        self.core = power_on(&mut self.array, self.core.device, self.core.version);
+        self.core = core_over(&mut self.array, self.core.device, self.core.version);
         self.row = Row::of(self.core.running);
     }
 }

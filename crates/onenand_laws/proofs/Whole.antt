@@ -15,7 +15,8 @@ promised d v m cs h =
     let s = reaches_sound (begins d v m) cs (begins_sound d v m h) in
     record { faithful = faithful _ s; ends = ends _ s _ refl; still = still _ s; blind = blind d v m cs }
 
-after_more : (s : State) (xs ys : List Call) → after s (xs ++ ys) ≡ after (after s xs) ys
+-- a list of calls, and then another
+pub after_more : (s : State) (xs ys : List Call) → after s (xs ++ ys) ≡ after (after s xs) ys
 after_more s [] ys = refl
 after_more s (x ∷ xs) ys = after_more (step s x).0 xs ys
 

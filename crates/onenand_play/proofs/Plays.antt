@@ -7,10 +7,7 @@ use Rattle.onenand_rules.specs.declared.calls.Call.{Call}
 use Rattle.onenand_rules.specs.State.{State}
 use Rattle.onenand_rules.specs.Calls.{reply_of}
 use Rattle.onenand_rules.specs.Steps.{step, after, replies}
-
-after_push : (s : State) (cs : List Call) (c : Call) → after s (cs ++ (c ∷ [])) ≡ (step (after s cs) c).0
-after_push s [] c = refl
-after_push s (d ∷ cs) c = after_push (step s d).0 cs c
+use Rattle.onenand_laws.proofs.Whole.{after_more}
 
 replies_push : (s : State) (cs : List Call) (c : Call) → replies s (cs ++ (c ∷ [])) ≡ replies s cs ++ ((step (after s cs) c).1 ∷ [])
 replies_push s [] c = refl
@@ -28,7 +25,7 @@ module _ (start s : State) (calls : List Call) (i : ℕ) (none : Call) (within :
   one_more = sym (take_more calls i none within)
 
   pub come_more : (s' : State) → s' ≡ (step s c).0 → s' ≡ after start (take (i + 1) calls)
-  come_more s' led = led ∙ ap (λ (x : State). (step x c).0) came ∙ sym (after_push start put c) ∙ ap (after start) one_more
+  come_more s' led = led ∙ ap (λ (x : State). (step x c).0) came ∙ sym (after_more start put (c ∷ [])) ∙ ap (after start) one_more
 
   pub replies_more : (given more : List (Result Answer Refusal)) (a : Result Answer Refusal) →
       map reply_of given ≡ replies start put → reply_of a ≡ (step s c).1 → more ≡ given ++ (a ∷ []) → map reply_of more ≡ replies start (take (i + 1) calls)

@@ -1,10 +1,11 @@
 -- One line more of a script: what is printed, and which calls are put.
-use Rattle.std.proofs.Common.{◌≡◌, ℕ, ◌+◌, List, [], ◌∷◌, ◌++◌, length, take, sym, refl, ap, ◌∙◌, append_assoc, arith}
-use Rattle.std.proofs.lemmas.List.{append-nil, take-append-le, take_all}
+use Rattle.std.proofs.Common.{◌≡◌, ℕ, ◌+◌, List, ◌∷◌, ◌++◌, length, take, sym, ap, ◌∙◌, append_assoc, arith}
+use Rattle.std.proofs.lemmas.List.{take-append-le, take_all}
 use Rattle.onenand_rules.specs.declared.calls.Call.{Call}
 use Rattle.onenand_rules.specs.State.{State}
-use Rattle.onenand_rules.specs.Steps.{step, after}
+use Rattle.onenand_rules.specs.Steps.{after}
 use Rattle.onenand_laws.specs.Promise.{Stopped}
+use Rattle.onenand_laws.proofs.Whole.{after_more}
 use Rattle.script_forms.specs.Grammar.{form_of}
 use Rattle.script_entries.specs.declared.entries.Entry.{Entry}
 use Rattle.script_entries.specs.Texts.{line_of}
@@ -27,17 +28,13 @@ told_more n l left more s s' e out out' all first gives goes wrote inv =
 abbrev pub Way : State → List (List ℕ) → State → List Call → Type 0
 Way start left s all = (put : List Call) × (s ≡ after start put) × (put ++ calls_of_lines left s ≡ all)
 
-pub after_both : (s : State) (xs ys : List Call) → after s (xs ++ ys) ≡ after (after s xs) ys
-after_both s [] ys = refl
-after_both s (x ∷ xs) ys = after_both (step s x).0 xs ys
-
 -- the way goes on by the calls of a line
 pub way_on : (start s s' : State) (l : List ℕ) (left more : List (List ℕ)) (all : List Call) →
     left ≡ l ∷ more → s' ≡ after s (calls_of_line s (form_of l)) → Way start left s all → Way start more s' all
 way_on start s s' l left more all first goes (put, came, whole) =
     let calls = calls_of_line s (form_of l) in (
       put ++ calls,
-      goes ∙ ap (λ x. after x calls) came ∙ sym (after_both start put calls),
+      goes ∙ ap (λ x. after x calls) came ∙ sym (after_more start put calls),
       append_assoc put calls (calls_of_lines more s') ∙ ap (λ x. put ++ (calls ++ calls_of_lines more x)) goes ∙ sym (ap (λ ls. put ++ calls_of_lines ls s) first) ∙ whole,
     )
 
@@ -46,8 +43,3 @@ pub way_stopped : (start s : State) (left : List (List ℕ)) (all : List Call) �
 way_stopped start s left all (put, came, whole) =
     let front = take-append-le (length put) put (calls_of_lines left s) (omega arith) ∙ take_all (length put) put (omega arith) in
     (length put, came ∙ ap (after start) (sym front ∙ ap (take (length put)) whole))
-
--- with no line left, all have
-pub way_ended : (start s : State) (left : List (List ℕ)) (all : List Call) → left ≡ [] → Way start left s all → s ≡ after start all
-way_ended start s left all none (put, came, whole) =
-    came ∙ ap (after start) (sym (append-nil put) ∙ sym (ap (λ ls. put ++ calls_of_lines ls s) none) ∙ whole)

@@ -1,9 +1,0 @@
-use Rattle.onenand_laws.proofs.Whole.{promised}
-use Rattle.onenand.proofs.Stands.{same_state}
-use Rattle.onenand.proofs.chip.power_on.Goals as goal
-
-pub returns : goal.returns
-returns g c = record {
-  state = same_state c.core_over.ensures.core c.core_over.ensures.same;
-  promise = λ calls. promised c.args.device c.args.version (g.D.Array.meaning c.args.array.now) calls (g.met.D.Array.capped c.args.array.now);
-}
