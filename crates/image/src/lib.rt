@@ -93,7 +93,8 @@ impl<'a> Image<'a> {
     }
 }
 
-// Beside the trait's clauses, in terms of what the image holds, each method says what becomes of the caller's words.
+// Each method says the trait's clauses in terms of what the image holds, and what becomes of the caller's words.
+// Stays: a method's own clauses stand in place of the trait's, so each repeats those.
 impl Array for Image<'_> {
     ghost meaning = { meant };
 

@@ -180,7 +180,8 @@ impl<'a> Sheets<'a> {
     }
 }
 
-// Beside the trait's clauses, in terms of what the array holds, each method says what becomes of the caller's sheets and words.
+// Each method says the trait's clauses in terms of what the array holds, and what becomes of the caller's sheets and words.
+// Stays: a method's own clauses stand in place of the trait's, so each repeats those.
 impl Array for Sheets<'_> {
     ghost meaning = { meant };
 
