@@ -72,6 +72,7 @@ fn read_four<D: Array>(array: &mut D, page: Page) -> [u16; 4]
 }
 
 // How it is told whether an array did what it was asked.
+// Stays: `Result` is the library's type, so no Display of ours can tell it.
 fn tell(answer: Result<(), Failed>) -> &'static str
     ensures { result.now ≡ told answer }
 {

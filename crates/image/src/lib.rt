@@ -45,6 +45,7 @@ pub fn check(words: &[u16], worn: &[u8]) -> Result<(), ImageFault>
 }
 
 // Words, block after block and page after page, with one worn byte a block: not 0 where the block is dead.
+// Stays: two lists side by side, since the caller lends them so and the array has no memory of its own.
 #[derive(Drop)]
 pub struct Image<'a> {
     words: &'a mut [u16],

@@ -96,6 +96,7 @@ impl<D: Array> Chip<D> {
     }
 
     // One tick of the running command.
+    // Stays: a match on what runs, which is the chip's own state.
     pub fn tick(&mut self) -> Result<Progress, Refusal>
         ensures answer { tick_reply result ≡ (step (state_of self.old) tick_call).1 }
         ensures state { state_of self.new ≡ (step (state_of self.old) tick_call).0 }

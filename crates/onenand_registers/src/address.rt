@@ -22,6 +22,7 @@ pub enum Place {
     Status,
     Interrupt,
     Protection,
+    // Stays: that an address leads nowhere is one of the answers of the decision, in the order of the rules, and not an absence.
     Unassigned,
 }
 

@@ -58,8 +58,8 @@ impl Row {
             length,
             block: t.block,
             page: t.page_number(),
-            word: t.page_word(i) as u16,
-            data: t.buffer_word(i) as u16,
+            word: t.page_word(i),
+            data: t.buffer_word(i),
         })
     }
 

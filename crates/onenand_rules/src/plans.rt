@@ -25,6 +25,7 @@ pub enum Plan {
 }
 
 // What runs, and how many ticks it has had.
+// Stays: the chip idles or runs a plan, as the rules say it; None and Some of a pair would say less.
 #[derive(Clone, Copy, PartialEq, Eq, Debug)]
 pub enum Running {
     Idle,

@@ -20,7 +20,7 @@ fn location(t: Transfer, i: u16) -> Location
     Location {
         block: t.block as usize,
         page: t.page_number() as usize,
-        word: t.page_word(i),
+        word: t.page_word(i) as usize,
     }
 }
 
@@ -29,7 +29,12 @@ fn load_word<D: Array>(array: &mut D, core: &mut Core, t: Transfer, i: u16)
     ensures core { core.new ≡ core_acted core.old (D.meaning array.old) (load_word t i) }
     ensures flash { D.meaning array.new ≡ D.meaning array.old }
 {
-    load(array, location(t, i), &mut core.dataram, t.buffer_word(i));
+    load(
+        array,
+        location(t, i),
+        &mut core.dataram,
+        t.buffer_word(i) as usize,
+    );
 }
 
 // Word i of a transfer, from the buffer to the array, if the array takes it.
@@ -37,7 +42,12 @@ fn program_word<D: Array>(array: &mut D, core: &Core, t: Transfer, i: u16) -> Re
     ensures value { result ≡ outcome_of (succeeds (D.meaning array.old) (program_word t i)) }
     ensures flash { D.meaning array.new ≡ array_acted core.now (D.meaning array.old) (program_word t i) }
 {
-    program(array, location(t, i), &core.dataram, t.buffer_word(i))
+    program(
+        array,
+        location(t, i),
+        &core.dataram,
+        t.buffer_word(i) as usize,
+    )
 }
 
 // Looks whether a page of a block is blank.
@@ -62,6 +72,8 @@ fn set_locks<D: Array>(array: &D, core: &mut Core, protection: Protection)
 }
 
 // Does what one tick does. Where it fails, the command ends with Error.
+// Stays: an action is data, as the plan is that the chip keeps from tick to tick, and the rules go by its cases; a closure
+// could not be kept so. Array and core go together here as the chip's two parts, which it holds side by side.
 pub fn act<D: Array>(array: &mut D, core: &mut Core, action: Action) -> Result<(), Failed>
     ensures value { result ≡ outcome_of (succeeds (D.meaning array.old) action) }
     ensures core { core.new ≡ core_acted core.old (D.meaning array.old) action }

@@ -1,4 +1,6 @@
 // Walks over a page of any array.
+// Stays: that the array means the same afterwards is said by each function that reads, here and elsewhere: it is what each
+// one promises, and no fact about one value.
 ghost use Rattle.std.specs.Prelude.{◌≡◌};
 ghost use Rattle.onenand_rules.specs.Resets.{boot_words};
 ghost use Rattle.onenand_rules.specs.Ticks.{blank};

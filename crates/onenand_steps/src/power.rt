@@ -25,6 +25,7 @@ fn fresh_core(device: u16, version: u16, bootram: [u16; PAGE_WORDS]) -> Core
 }
 
 // What a chip holds as its power comes on over an array.
+// Stays: a chip's two identity words are given once, as it is made, and a struct of them would be named there alone.
 pub fn core_over<D: Array>(array: &mut D, device: u16, version: u16) -> Core
     ensures core { result ≡ (powered_up device version (D.meaning array.old)).core }
     ensures same { D.meaning array.new ≡ D.meaning array.old }

@@ -5,11 +5,11 @@ ghost use Rattle.std.specs.Prelude.{◌≡◌, ℕ, ◌/◌, ◌%◌, ◌^◌, �
 ghost use Rattle.onenand_transfer.specs.Transfers.{words as word_count, counted, sector_word, buffer_sector, page_of, page_word, buffer_word, sector_of, chosen};
 
 // Words of a sector: main words, then spare words.
-const MAIN: usize = 256;
+const MAIN: u16 = 256;
 
-const SPARE: usize = 8;
+const SPARE: u16 = 8;
 
-const SECTOR: usize = MAIN + SPARE;
+const SECTOR: u16 = MAIN + SPARE;
 
 // What moves of a sector.
 #[derive(Clone, Copy, PartialEq, Eq, Debug)]
@@ -33,11 +33,10 @@ pub struct Transfer {
 
 impl Part {
     // Word i that moves: which of the sectors it is of, the first or the second, and which word of it.
-    fn sector_and_word(self, i: u16) -> (usize, usize)
+    fn sector_and_word(self, i: u16) -> (u16, u16)
         ensures value { result ≡ (counted self i / 264, counted self i % 264) }
-        ensures low { (result.0 < 2 ^ 16) × (result.1 < 264) }
+        ensures low { (result.0 < 2 ^ 13) × (result.1 < 264) }
     {
-        let i = i as usize;
         match self {
             Part::Whole => (i / SECTOR, i % SECTOR),
             Part::Spare => (i / SPARE, MAIN + i % SPARE),
@@ -46,10 +45,9 @@ impl Part {
 }
 
 // Word o of sector s, of n sectors.
-fn sector_word(n: usize, s: usize, o: usize) -> usize
+fn sector_word(n: u16, s: u16, o: u16) -> u16
     requires { (n ≤ 4) × (s < 4) × (o < 264) }
-    ensures value { result ≡ sector_word n s o }
-    ensures low { result < 2 ^ 16 }
+    ensures { result ≡ sector_word n s o }
 {
     if o < MAIN {
         MAIN * s + o
@@ -59,10 +57,9 @@ fn sector_word(n: usize, s: usize, o: usize) -> usize
 }
 
 // The sector that a DataRAM word lies in.
-fn sector_of(x: u16) -> usize
+fn sector_of(x: u16) -> u16
     ensures { result ≡ sector_of x }
 {
-    let x = x as usize;
     if x < 4 * MAIN {
         x / MAIN
     } else {
@@ -72,6 +69,7 @@ fn sector_of(x: u16) -> usize
 
 impl Transfer {
     // How many words move.
+    // Stays: the bounds stand beside the value, since a type says neither, and sums of ticks rest on both.
     #[tactic(auto, unfolding(crate::specs::Transfers::size))]
     pub fn words(self) -> u16
         ensures value { result ≡ word_count self }
@@ -80,8 +78,8 @@ impl Transfer {
     {
         let sectors = 2 - self.buffer % 2;
         match self.part {
-            Part::Whole => SECTOR as u16 * sectors,
-            Part::Spare => SPARE as u16 * sectors,
+            Part::Whole => SECTOR * sectors,
+            Part::Spare => SPARE * sectors,
         }
     }
 
@@ -94,31 +92,29 @@ impl Transfer {
 
     // Where word i that moves stands in its page.
     #[tactic(auto, unfolding(crate::specs::Transfers::page_word))]
-    pub fn page_word(self, i: u16) -> usize
-        ensures value { result ≡ page_word self.part self.page i }
-        ensures low { result < 2 ^ 16 }
+    pub fn page_word(self, i: u16) -> u16
+        ensures { result ≡ page_word self.part self.page i }
     {
         let (j, o) = self.part.sector_and_word(i);
-        sector_word(2, (self.page as usize % 2 + j) % 2, o)
+        sector_word(2, (self.page % 2 + j) % 2, o)
     }
 
     // Where it stands in DataRAM.
     #[tactic(auto, unfolding(crate::specs::Transfers::buffer_word))]
-    pub fn buffer_word(self, i: u16) -> usize
-        ensures value { result ≡ buffer_word self.part self.buffer i }
-        ensures low { result < 2 ^ 16 }
+    pub fn buffer_word(self, i: u16) -> u16
+        ensures { result ≡ buffer_word self.part self.buffer i }
     {
         let (j, o) = self.part.sector_and_word(i);
         sector_word(4, self.buffer_sector(j), o)
     }
 
     // The sector of DataRAM that is used first (0) or second (1).
-    fn buffer_sector(self, j: usize) -> usize
-        requires { j < 2 ^ 32 }
+    fn buffer_sector(self, j: u16) -> u16
+        requires { j < 2 ^ 13 }
         ensures value { result ≡ buffer_sector self.buffer j }
         ensures low { result < 4 }
     {
-        let f = self.buffer as usize;
+        let f = self.buffer;
         2 * (f / 1024 % 2) + (f / 256 % 2 + j) % 2
     }
 

@@ -19,6 +19,7 @@ pub enum Entry {
     Warm,
     Cold,
     // What was refused, and where.
+    // Stays: a refusal is a line of the transcript like any other, so an entry is no Result.
     Refused(Code, Place),
 }
 

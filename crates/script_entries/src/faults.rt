@@ -26,6 +26,7 @@ pub enum Layer {
 }
 
 // What is shown of a fault.
+// Stays: a transcript shows a number; the fault that it is of is the enum above.
 #[derive(Clone, Copy, PartialEq, Eq, Debug)]
 pub struct Code {
     pub layer: Layer,
@@ -42,6 +43,7 @@ impl From<Refusal> for Fault {
 
 impl Fault {
     // The layer and the number of the fault. The chip's refusals keep their numbers.
+    // Stays: a fault is no code and has one, which `code` says better than `From`.
     pub fn code(self) -> Code
         ensures { result ≡ code_of self }
     {

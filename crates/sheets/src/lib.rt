@@ -108,6 +108,7 @@ impl Numbered for SheetFault {
 }
 
 // The first sheet of a page.
+// Stays: a walk, since the caller's sheets stand in any order, and an array has no memory for an index of them.
 fn find(sheets: &[Sheet], block: usize, page: usize) -> Option<usize>
     ensures { result ≡ position (is_of block page) sheets.now }
 {
@@ -132,6 +133,7 @@ fn unmark(sheets: &mut [Sheet], block: usize)
 }
 
 // An array of `count` blocks, of which the pages that have a sheet are there.
+// Stays: sheets and their words side by side, since the caller lends them so and the array has no memory of its own.
 #[derive(Drop)]
 pub struct Sheets<'a> {
     count: usize,
@@ -262,6 +264,7 @@ fn check_pages(count: usize, sheets: &[Sheet], scratch: &mut [u8]) -> Result<(),
 }
 
 // Whether the sheets are a sound list for `count` blocks: then each is the one that its page reads from. It works in a scratch of 64 bytes a block.
+// Stays: count, sheets and words go together as `Sheets` once it is made, and this looks at them before; the scratch is the caller's.
 pub fn check(
     count: usize,
     sheets: &[Sheet],
