@@ -29,7 +29,7 @@ pub struct Location {
     pub word: usize,
 }
 
-// Why a word was not programmed or a block not erased: the page or the block is dead, or out of range.
+// What was asked was not done. Of an array: the page or the block is dead, or out of range, and nothing has changed.
 #[derive(Clone, Copy, PartialEq, Eq, Debug)]
 pub struct Failed;
 
@@ -103,7 +103,8 @@ pub fn spare_word(sector: usize, i: usize) -> Option<usize>
 fn set_all<T: Copy>(items: &mut [T], item: T)
     ensures { items.new ≡ replicate (length items.old) item }
 {
-    // Stays: the library's `fill` asks for a `clone` that cannot fail, which `T: Copy` does not say.
+    // Stays: the library's `fill` asks for a `clone` that cannot fail, which `T: Copy` does not say, and of `fill_with` a
+    // proof has to follow the state of the closure.
     for x in items {
         *x = item;
     }

@@ -54,6 +54,7 @@ pub struct Protection {
     pub last: u16,
 }
 
+// Stays: the chip's table has room for more blocks than its array has, so each method takes both the table and the number.
 impl Protection {
     // Whether block b is in the range.
     fn covers(self, b: usize) -> bool

@@ -55,7 +55,8 @@ fn register(addr: u16) -> Place
 }
 
 // Where an address leads: the RAM areas, then the registers, which all stand from F000h on.
-// Stays: an address is not turned into a place, it leads to one, and `place_of` says that better than `From`.
+// Stays: ranges and guards decide it, and most addresses lead nowhere, so it is a decision, and no conversion of one value
+// into another.
 pub fn place_of(addr: u16) -> Place
     ensures { result ≡ place_of addr }
 {

@@ -76,7 +76,8 @@ impl Operands {
         }
     }
 
-    // Stays: get borrows and put borrows to change, so one function that finds the register would not serve both.
+    // Stays: one function that lends the register would serve get and put, but its clause would have to say what a write
+    // through the loan makes of all seven, which `put` says plainly.
     fn put(&mut self, o: Operand, w: u16)
         ensures { self.new ≡ operand_put self.old o w }
     {

@@ -41,11 +41,9 @@ impl Request {
     fn is_buffer_fit(self) -> bool
         ensures { result ≡ buffer_fit self.operands self.command }
     {
+        let buffer = self.operands.buffer;
         match self.command {
-            Command::Load(_) | Command::Program(_) | Command::CopyBack => self.operands.buffer
-                / 2048
-                % 2
-                == 1,
+            Command::Load(_) | Command::Program(_) | Command::CopyBack => buffer / 2048 % 2 == 1,
             _ => true,
         }
     }
@@ -94,8 +92,7 @@ impl Request {
         Transfer {
             block: self.operands.copy_block,
             page: self.operands.copy_page,
-            buffer: self.operands.buffer,
-            part: Part::Whole,
+            ..self.transfer(Part::Whole)
         }
     }
 
