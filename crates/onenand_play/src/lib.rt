@@ -18,6 +18,7 @@ pub fn answer<D: Array>(chip: &mut Chip<D>, call: Call) -> Result<Answer, Refusa
     ensures reply { reply_of result ≡ (step (state_of chip.old) call).1 }
     ensures state { state_of chip.new ≡ (step (state_of chip.old) call).0 }
 {
+    // Stays: a call is data that lists hold and laws speak of, and a closure in its place would hide what it is.
     match call {
         Call::Read(addr) => Ok(Answer::Word(chip.read(addr)?)),
         Call::Write(addr, word) => {

@@ -1,5 +1,6 @@
 // Power-up.
 ghost use Rattle.std.specs.Prelude.{◌≡◌};
+ghost use Rattle.onenand_rules.specs.State.{state_for};
 ghost use Rattle.onenand_rules.specs.Resets.{fresh_core, powered_up};
 
 use crate::pages::boot_words;
@@ -24,11 +25,10 @@ fn fresh_core(device: u16, version: u16, bootram: [u16; PAGE_WORDS]) -> Core
     }
 }
 
-// What a chip holds as its power comes on over an array.
+// What a chip holds as its power comes on over an array. The array stays as it is.
 // Stays: a chip's two identity words are given once, as it is made, and a struct of them would be named there alone.
 pub fn core_over<D: Array>(array: &mut D, device: u16, version: u16) -> Core
-    ensures core { result ≡ (powered_up device version (D.meaning array.old)).core }
-    ensures same { D.meaning array.new ≡ D.meaning array.old }
+    ensures { state_for result (D.meaning array.new) ≡ powered_up device version (D.meaning array.old) }
 {
     let boot = boot_words(array);
     fresh_core(device, version, boot)

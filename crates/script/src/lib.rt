@@ -42,6 +42,7 @@ fn perform<D: Array>(chip: &mut Chip<D>, kind: Kind<'_>) -> Result<Entry, Fault>
     ensures entry { coded result ≡ performed (state_of chip.old) (asked kind.entry) }
     ensures state { state_of chip.new ≡ state_after (state_of chip.old) (calls_for (state_of chip.old) (asked kind.entry)) }
 {
+    // Stays: what a form asks is data, read from the script, and a closure in its place would hide what it is.
     match kind {
         Kind::Read(address) => {
             let address = address.worth();

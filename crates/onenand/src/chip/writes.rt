@@ -63,6 +63,7 @@ impl<D: Array> Chip<D> {
         ensures answer { write_reply result ≡ (step (state_of self.old) (write_call addr word)).1 }
         ensures state { state_of self.new ≡ (step (state_of self.old) (write_call addr word)).0 }
     {
+        // Stays: the places are rows of the chip's table, and a table of closures would say the same at more length.
         match place_of(addr) {
             Place::Data(x) => {
                 if self.core.running.takes(x) {

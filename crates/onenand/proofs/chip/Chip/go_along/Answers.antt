@@ -4,9 +4,9 @@ use Rattle.onenand_rules.specs.State.{State, core_with}
 use Rattle.onenand_rules.specs.Ticks.{ticked}
 use Rattle.onenand_rules.specs.Calls.{Reply}
 use Rattle.onenand_rows.specs.Rows.{Suits}
+use Rattle.onenand_steps.proofs.Stands.{same_state}
 use Rattle.onenand.specs.Chips.{state_of}
 use Rattle.onenand.proofs.Along.{short, along_on, went_well}
-use Rattle.onenand.proofs.Stands.{same_state}
 use Rattle.onenand.proofs.chip.Chip.go_along.Goals as goal
 
 pub overflow_add-k : goal.overflow_add-k
