@@ -13,7 +13,6 @@ use onenand_rules::calls::{Answer, Call, Refusal};
 use std::alloc::{AllocError, Global};
 
 // One call, and what it answers.
-// Stays: a match on the call, which is data: a list of calls is what is played.
 pub fn answer<D: Array>(chip: &mut Chip<D>, call: Call) -> Result<Answer, Refusal>
     ensures reply { reply_of result ≡ (step (state_of chip.old) call).1 }
     ensures state { state_of chip.new ≡ (step (state_of chip.old) call).0 }

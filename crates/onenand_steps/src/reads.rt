@@ -10,7 +10,7 @@ use onenand_rules::calls::Refusal;
 use onenand_rules::state::Core;
 
 // What a read of an address shows.
-// Stays: a match on the places, as the rules have them one by one.
+// Stays: the places are rows of the chip's table, and a table of closures would say the same at more length.
 pub fn show(core: &Core, addr: u16) -> Result<u16, Refusal>
     ensures { read_reply result ≡ shown core.now (place_of addr) }
 {

@@ -37,7 +37,6 @@ fn run_ticks<D: Array>(chip: &mut Chip<D>, count: u16) -> u16
 }
 
 // Does what a form asks.
-// Stays: a match on the form, which is data that was read.
 fn perform<D: Array>(chip: &mut Chip<D>, kind: Kind<'_>) -> Result<Entry, Fault>
     ensures entry { coded result ≡ performed (state_of chip.old) (asked kind.entry) }
     ensures state { state_of chip.new ≡ state_after (state_of chip.old) (calls_for (state_of chip.old) (asked kind.entry)) }

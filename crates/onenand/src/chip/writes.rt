@@ -58,7 +58,6 @@ impl<D: Array> Chip<D> {
     }
 
     // Writes a word to an address.
-    // Stays: a match on the places, as the rules have them one by one.
     pub fn write(&mut self, addr: u16, word: u16) -> Result<(), Refusal>
         ensures answer { write_reply result ≡ (step (state_of self.old) (write_call addr word)).1 }
         ensures state { state_of self.new ≡ (step (state_of self.old) (write_call addr word)).0 }
