@@ -63,30 +63,18 @@ impl<'a> Image<'a> {
         Image { words, worn }
     }
 
-    // How many blocks the lists make.
-    fn blocks(&self) -> usize
-        ensures { result ≡ blocks self.now.words.now self.now.worn.now }
-    {
-        let n = self.worn.len();
-        if n <= MAX_BLOCKS && self.words.len() == n * BLOCK_WORDS {
-            n
-        } else {
-            0
-        }
-    }
-
     // Whether the block is there and not worn.
     fn sound(&self, block: usize) -> bool
         ensures { result ≡ erasable (meant self.now) block }
     {
-        block < self.blocks() && self.worn[block] == 0
+        block < self.count() && self.worn[block] == 0
     }
 
     // Where a word stands among the caller's words, if it is in range.
     fn place(&self, at: Location) -> Option<usize>
         ensures { result ≡ place_of self.now.words.now self.now.worn.now at.block at.page at.word }
     {
-        if at.block < self.blocks() && at.page < BLOCK_PAGES && at.word < PAGE_WORDS {
+        if at.block < self.count() && at.page < BLOCK_PAGES && at.word < PAGE_WORDS {
             Some(at.block * BLOCK_WORDS + at.page * PAGE_WORDS + at.word)
         } else {
             None
@@ -100,7 +88,12 @@ impl Array for Image<'_> {
     ghost meaning = { meant };
 
     fn count(&self) -> usize {
-        self.blocks()
+        let n = self.worn.len();
+        if n <= MAX_BLOCKS && self.words.len() == n * BLOCK_WORDS {
+            n
+        } else {
+            0
+        }
     }
 
     fn read(&mut self, at: Location) -> u16
