@@ -5,7 +5,7 @@ ghost use Rattle.std.specs.Prelude.{◌≡◌, length, is_some, if◌then◌else
 ghost use Rattle.flash.specs.Meaning.{word_at, outcome_of, programmable, after_program, erasable, after_erase};
 ghost use Rattle.flash.specs.Refusals.{refusal};
 ghost use Rattle.image.specs.Checks.{number_of, image_check};
-ghost use Rattle.image.specs.Contents.{blocks, place_of, words_programmed, words_erased};
+ghost use Rattle.image.specs.Contents.{place_of, words_programmed, words_erased};
 ghost use Rattle.image.specs.Held.{meant, Kept};
 ghost use Rattle.image.specs.Bounds.{capped, narrow};
 
@@ -63,30 +63,18 @@ impl<'a> Image<'a> {
         Image { words, worn }
     }
 
-    // How many blocks the lists make.
-    fn blocks(&self) -> usize
-        ensures { result ≡ blocks self.now.words.now self.now.worn.now }
-    {
-        let n = self.worn.len();
-        if n <= MAX_BLOCKS && self.words.len() == n * BLOCK_WORDS {
-            n
-        } else {
-            0
-        }
-    }
-
     // Whether the block is there and not worn.
     fn sound(&self, block: usize) -> bool
         ensures { result ≡ erasable (meant self.now) block }
     {
-        block < self.blocks() && self.worn[block] == 0
+        block < self.count() && self.worn[block] == 0
     }
 
     // Where a word stands among the caller's words, if it is in range.
     fn place(&self, at: Location) -> Option<usize>
         ensures { result ≡ place_of self.now.words.now self.now.worn.now at.block at.page at.word }
     {
-        if at.block < self.blocks() && at.page < BLOCK_PAGES && at.word < PAGE_WORDS {
+        if at.block < self.count() && at.page < BLOCK_PAGES && at.word < PAGE_WORDS {
             Some(at.block * BLOCK_WORDS + at.page * PAGE_WORDS + at.word)
         } else {
             None
@@ -99,8 +87,14 @@ impl<'a> Image<'a> {
 impl Array for Image<'_> {
     ghost meaning = { meant };
 
+    // How many blocks the lists make.
     fn count(&self) -> usize {
-        self.blocks()
+        let n = self.worn.len();
+        if n <= MAX_BLOCKS && self.words.len() == n * BLOCK_WORDS {
+            n
+        } else {
+            0
+        }
     }
 
     fn read(&mut self, at: Location) -> u16

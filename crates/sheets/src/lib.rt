@@ -8,7 +8,7 @@ ghost use Rattle.flash.specs.Meaning.{word_at, outcome_of, programmable, after_p
 ghost use Rattle.flash.specs.Refusals.{refusal};
 ghost use Rattle.sheets.specs.Pages.{is_of};
 ghost use Rattle.sheets.specs.Checks.{number_of, lists_fit, byte_of, good_sheets, marked, cleared, good_now, walked, page_found, sheet_check, scratch_after};
-ghost use Rattle.sheets.specs.Contents.{blocks, seat_of, written, sheets_programmed, words_programmed, unmarked as without_mark, sheets_erased};
+ghost use Rattle.sheets.specs.Contents.{seat_of, written, sheets_programmed, words_programmed, unmarked as without_mark, sheets_erased};
 ghost use Rattle.sheets.specs.Bounds.{capped, narrow};
 ghost use Rattle.sheets.specs.Held.{meant, Kept};
 ghost use Rattle.sheets.specs.Laws.{OwnsPage};
@@ -158,23 +158,12 @@ impl<'a> Sheets<'a> {
         }
     }
 
-    // How many blocks the lists make.
-    fn blocks(&self) -> usize
-        ensures { result ≡ blocks self.now.count self.now.sheets.now self.now.words.now }
-    {
-        if lists_fit(self.count, self.sheets, self.words) {
-            self.count
-        } else {
-            0
-        }
-    }
-
     // The sheet that has the word.
     #[tactic(auto, using(crate::proofs::Finding::found))]
     fn seat(&self, at: Location) -> Option<usize>
         ensures { result ≡ seat_of self.now.count self.now.sheets.now self.now.words.now at.block at.page at.word }
     {
-        if at.block < self.blocks() && at.page < BLOCK_PAGES && at.word < PAGE_WORDS {
+        if at.block < self.count() && at.page < BLOCK_PAGES && at.word < PAGE_WORDS {
             find(self.sheets, at.block, at.page)
         } else {
             None
@@ -187,8 +176,13 @@ impl<'a> Sheets<'a> {
 impl Array for Sheets<'_> {
     ghost meaning = { meant };
 
+    // How many blocks the lists make.
     fn count(&self) -> usize {
-        self.blocks()
+        if lists_fit(self.count, self.sheets, self.words) {
+            self.count
+        } else {
+            0
+        }
     }
 
     fn read(&mut self, at: Location) -> u16
@@ -228,7 +222,7 @@ impl Array for Sheets<'_> {
         ensures words { self.new.words.now ≡ self.old.words.now }
         ensures kept { Kept self.old self.new }
     {
-        if block >= self.blocks() {
+        if block >= self.count() {
             return Err(Failed);
         }
         unmark(self.sheets, block);
