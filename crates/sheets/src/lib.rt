@@ -63,29 +63,6 @@ impl Sheet {
     {
         self.block as usize * BLOCK_PAGES + self.page as usize
     }
-
-    // Whether the sheet's page is in the array and not marked in the scratch.
-    fn is_good(self, count: usize, scratch: &[u8]) -> bool
-        requires { count * block_pages ≤ length scratch.now }
-        ensures { result ≡ good_now count scratch.now self }
-    {
-        (self.block as usize) < count
-            && (self.page as usize) < BLOCK_PAGES
-            && scratch[self.byte()] == 0
-    }
-
-    // Marks the sheet's page in the scratch, if it is good.
-    fn mark(self, count: usize, scratch: &mut [u8]) -> Result<(), SheetFault>
-        requires { count * block_pages ≤ length scratch.old }
-        ensures value { result ≡ page_found (good_now count scratch.old self) }
-        ensures scratch { scratch.new ≡ (if good_now count scratch.old self then slice_set scratch.old (byte_of self) 1 else scratch.old) }
-    {
-        if !self.is_good(count, scratch) {
-            return Err(SheetFault::Page);
-        }
-        scratch[self.byte()] = 1;
-        Ok(())
-    }
 }
 
 // Why a list of sheets is turned away, by the numbers that the rules give.
@@ -234,27 +211,60 @@ impl Array for Sheets<'_> {
     ghost narrow = { λ s. narrow s.count s.sheets.now s.words.now };
 }
 
-// Marks the page of each sheet, up to the first that is not good.
-fn mark_pages(count: usize, sheets: &[Sheet], scratch: &mut [u8]) -> Result<(), SheetFault>
-    requires { count * block_pages ≤ length scratch.old }
-    ensures value { result ≡ page_found (walked count sheets.now scratch.old).0 }
-    ensures scratch { scratch.new ≡ (walked count sheets.now scratch.old).1 }
-{
-    for sheet in sheets {
-        sheet.mark(count, scratch)?;
-    }
-    Ok(())
+// The pages of `count` blocks in a scratch that the caller lends: a byte each, not 0 where a sheet has the page.
+#[derive(Drop)]
+struct Pages<'a> {
+    count: usize,
+    bytes: &'a mut [u8],
+    ghost roomy: { count * block_pages ≤ length bytes.now },
 }
 
-// The same in a scratch that is cleared first: whether each sheet has a page of its own.
-fn check_pages(count: usize, sheets: &[Sheet], scratch: &mut [u8]) -> Result<(), SheetFault>
-    requires { count * block_pages ≤ length scratch.old }
-    ensures value { result ≡ page_found (good_sheets count [] sheets.now == length sheets.now) }
-    ensures scratch { scratch.new ≡ marked (take (good_sheets count [] sheets.now) sheets.now) (cleared count scratch.old) }
-    ensures owned { is_ok result ≡ true → (k : ℕ) → k < length sheets.now → OwnsPage count sheets.now k }
-{
-    fill(scratch, 0, count * BLOCK_PAGES, 0);
-    mark_pages(count, sheets, scratch)
+impl Pages<'_> {
+    // Whether the sheet's page is in the array and no sheet has it yet.
+    fn is_free(&self, sheet: Sheet) -> bool
+        ensures { result ≡ good_now self.now.count self.now.bytes.now sheet }
+    {
+        (sheet.block as usize) < self.count
+            && (sheet.page as usize) < BLOCK_PAGES
+            && self.bytes[sheet.byte()] == 0
+    }
+
+    // Gives the sheet its page, if it is free.
+    fn take(&mut self, sheet: Sheet) -> Result<(), SheetFault>
+        ensures value { result ≡ page_found (good_now self.old.count self.old.bytes.now sheet) }
+        ensures bytes { self.new.bytes.now ≡ (if good_now self.old.count self.old.bytes.now sheet then slice_set self.old.bytes.now (byte_of sheet) 1 else self.old.bytes.now) }
+        ensures count { self.new.count ≡ self.old.count }
+        ensures lender { self.new.bytes.ghost_name ≡ self.old.bytes.ghost_name }
+    {
+        if !self.is_free(sheet) {
+            return Err(SheetFault::Page);
+        }
+        self.bytes[sheet.byte()] = 1;
+        Ok(())
+    }
+
+    // Gives each sheet its page, up to the first whose page is not free.
+    fn take_each(&mut self, sheets: &[Sheet]) -> Result<(), SheetFault>
+        ensures value { result ≡ page_found (walked self.old.count sheets.now self.old.bytes.now).0 }
+        ensures bytes { self.new.bytes.now ≡ (walked self.old.count sheets.now self.old.bytes.now).1 }
+        ensures lender { self.new.bytes.ghost_name ≡ self.old.bytes.ghost_name }
+    {
+        for sheet in sheets {
+            self.take(*sheet)?;
+        }
+        Ok(())
+    }
+
+    // The same from the start, where no sheet has a page: whether each sheet has a page of its own.
+    fn share(&mut self, sheets: &[Sheet]) -> Result<(), SheetFault>
+        ensures value { result ≡ page_found (good_sheets self.old.count [] sheets.now == length sheets.now) }
+        ensures bytes { self.new.bytes.now ≡ marked (take (good_sheets self.old.count [] sheets.now) sheets.now) (cleared self.old.count self.old.bytes.now) }
+        ensures lender { self.new.bytes.ghost_name ≡ self.old.bytes.ghost_name }
+        ensures owned { is_ok result ≡ true → (k : ℕ) → k < length sheets.now → OwnsPage self.old.count sheets.now k }
+    {
+        fill(self.bytes, 0, self.count * BLOCK_PAGES, 0);
+        self.take_each(sheets)
+    }
 }
 
 // Whether the sheets are a sound list for `count` blocks: then each is the one that its page reads from. It works in a scratch of 64 bytes a block.
@@ -275,5 +285,9 @@ pub fn check(
     if scratch.len() < count * BLOCK_PAGES {
         return Err(SheetFault::Scratch);
     }
-    check_pages(count, sheets, scratch)
+    let mut pages = Pages {
+        count,
+        bytes: scratch,
+    };
+    pages.share(sheets)
 }
