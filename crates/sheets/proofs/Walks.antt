@@ -70,7 +70,7 @@ same_test : (n : ℕ) (before : List Sheet) (t : List ℕ) (s : Sheet) → Shows
 same_test n before t s shows = grind (arith, nat_tests, shows)
 
 -- what the walk gives, by how many sheets are good
-abbrev given : ℕ → List Sheet → List ℕ → Bool × List ℕ
+abbrev pub given : ℕ → List Sheet → List ℕ → Bool × List ℕ
 given k ss t = (eqb k (length ss), marked (take k ss) t)
 
 walk_is : (n : ℕ) (before ss : List Sheet) (t : List ℕ) → n * block_pages ≤ length t → Shows n before t → walked n ss t ≡ given (good_sheets n before ss) ss t
@@ -87,7 +87,7 @@ walk_is n before (s ∷ ss) t long shows =
     (cases_Bool (good_after n before s))
 
 pub walk_cleared : (n : ℕ) (ss : List Sheet) (t : List ℕ) → n * block_pages ≤ length t
-    → walked n ss (cleared n t) ≡ (eqb (good_sheets n [] ss) (length ss), marked (take (good_sheets n [] ss) ss) (cleared n t))
+    → walked n ss (cleared n t) ≡ given (good_sheets n [] ss) ss (cleared n t)
 walk_cleared n ss t long =
     let longer : n * block_pages ≤ length (cleared n t) = let e = length-filled 0 0 (n * block_pages) t (omega arith) in omega arith in
     walk_is n [] ss (cleared n t) longer (shows_none n t long)

@@ -211,15 +211,15 @@ impl Array for Sheets<'_> {
     ghost narrow = { λ s. narrow s.count s.sheets.now s.words.now };
 }
 
-// The pages of `count` blocks in a scratch that the caller lends: a byte each, not 0 where a sheet has the page.
+// Which pages of `count` blocks have a sheet: a byte each in the caller's scratch, not 0 where one has.
 #[derive(Drop)]
-struct Pages<'a> {
+struct PageMap<'a> {
     count: usize,
     bytes: &'a mut [u8],
     ghost roomy: { count * block_pages ≤ length bytes.now },
 }
 
-impl Pages<'_> {
+impl PageMap<'_> {
     // Whether the sheet's page is in the array and no sheet has it yet.
     fn is_free(&self, sheet: Sheet) -> bool
         ensures { result ≡ good_now self.now.count self.now.bytes.now sheet }
@@ -243,27 +243,18 @@ impl Pages<'_> {
         Ok(())
     }
 
-    // Gives each sheet its page, up to the first whose page is not free.
+    // Frees all pages, then gives each sheet its own, up to the first whose page is not free.
     fn take_each(&mut self, sheets: &[Sheet]) -> Result<(), SheetFault>
-        ensures value { result ≡ page_found (walked self.old.count sheets.now self.old.bytes.now).0 }
-        ensures bytes { self.new.bytes.now ≡ (walked self.old.count sheets.now self.old.bytes.now).1 }
-        ensures lender { self.new.bytes.ghost_name ≡ self.old.bytes.ghost_name }
-    {
-        for sheet in sheets {
-            self.take(*sheet)?;
-        }
-        Ok(())
-    }
-
-    // The same from the start, where no sheet has a page: whether each sheet has a page of its own.
-    fn share(&mut self, sheets: &[Sheet]) -> Result<(), SheetFault>
         ensures value { result ≡ page_found (good_sheets self.old.count [] sheets.now == length sheets.now) }
         ensures bytes { self.new.bytes.now ≡ marked (take (good_sheets self.old.count [] sheets.now) sheets.now) (cleared self.old.count self.old.bytes.now) }
         ensures lender { self.new.bytes.ghost_name ≡ self.old.bytes.ghost_name }
         ensures owned { is_ok result ≡ true → (k : ℕ) → k < length sheets.now → OwnsPage self.old.count sheets.now k }
     {
         fill(self.bytes, 0, self.count * BLOCK_PAGES, 0);
-        self.take_each(sheets)
+        for sheet in sheets {
+            self.take(*sheet)?;
+        }
+        Ok(())
     }
 }
 
@@ -285,9 +276,9 @@ pub fn check(
     if scratch.len() < count * BLOCK_PAGES {
         return Err(SheetFault::Scratch);
     }
-    let mut pages = Pages {
+    let mut map = PageMap {
         count,
         bytes: scratch,
     };
-    pages.share(sheets)
+    map.take_each(sheets)
 }
