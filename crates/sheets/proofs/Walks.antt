@@ -1,5 +1,5 @@
 -- The check's walk over the sheets, by the scratch and by the sheets alone.
-use Rattle.std.proofs.Common.{◌≡◌, ℕ, ◌+◌, ◌*◌, ◌<◌, ◌≤◌, Bool, true, false, cond, eqb, List, [], ◌∷◌, length, get_or, take, drop, set, Ok, Err, is_ok, sym, refl, ap, ap₂, ◌∙◌, ⊎_elim, arith}
+use Rattle.std.proofs.Common.{◌≡◌, ℕ, ◌+◌, ◌*◌, ◌<◌, ◌≤◌, Bool, true, false, cond, eqb, List, [], ◌∷◌, length, get_or, take, drop, set, Result, Ok, Err, is_ok, sym, refl, ap, ap₂, ◌∙◌, ⊎_elim, arith}
 use Rattle.std.proofs.lemmas.List.{at_drop_more, at_drop_all, length-set, get_or-set_same, get_or-set_other}
 use Rattle.std.proofs.lemmas.Bool.{cond-true, cond-false, cases_Bool}
 use Rattle.std.proofs.lemmas.Bool.Decides.{nat_tests}
@@ -34,14 +34,14 @@ module _ (n : ℕ) (ss : List Sheet) (t : List ℕ) (i : ℕ) (all : Bool × Lis
   unfolding walked
   step within = at_drop_more (λ xs. walked n xs t) ss i no_sheet within
 
-  pub walk_on : (x : Unit {0}) (u : List ℕ) → i < length ss → page_found good ≡ Ok x → u ≡ cond good after t → walked n (drop (i + 1) ss) u ≡ all
-  walk_on x u within f e =
-      let g = found_good good x f in
-      ap (walked n (drop (i + 1) ss)) (e ∙ cond-true _ _ _ g) ∙ sym (step within ∙ cond-true _ _ _ g) ∙ so_far
+  pub walk_on : (m : ℕ) (r : Result (Unit {0}) SheetFault) (x : Unit {0}) (u : List ℕ) → i < length ss → r ≡ page_found good → r ≡ Ok x → u ≡ cond good after t → m ≡ n → walked m (drop (i + 1) ss) u ≡ all
+  walk_on m r x u within v f e same =
+      let g = found_good good x (sym v ∙ f) in
+      ap₂ (λ k xs. walked k (drop (i + 1) ss) xs) same (e ∙ cond-true _ _ _ g) ∙ sym (step within ∙ cond-true _ _ _ g) ∙ so_far
 
-  pub walk_stops : (x : SheetFault) (u : List ℕ) → i < length ss → page_found good ≡ Err x → u ≡ cond good after t → (good, u) ≡ all
-  walk_stops x u within f e =
-      let g = found_bad good x f in
+  pub walk_stops : (r : Result (Unit {0}) SheetFault) (x : SheetFault) (u : List ℕ) → i < length ss → r ≡ page_found good → r ≡ Err x → u ≡ cond good after t → (good, u) ≡ all
+  walk_stops r x u within v f e =
+      let g = found_bad good x (sym v ∙ f) in
       ap₂ (λ r v. (r, v)) g (e ∙ cond-false _ _ _ g) ∙ sym (step within ∙ cond-false _ _ _ g) ∙ so_far
 
   pub walk_ends : length ss ≤ i → (true, t) ≡ all

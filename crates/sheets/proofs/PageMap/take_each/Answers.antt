@@ -13,7 +13,7 @@ loop-sheet-init c =
 pub returns-in_err-take : goal.returns-in_err-take
 returns-in_err-take c =
     let w = c.loop-sheet in
-    let e = walk_stops w.self.count c.args.sheets.now w.self.bytes.now w.sheet-index _ w.invariant.0 _ c.take.new.self.bytes.now c.loop-sheet-test.true (sym c.take.ensures.value ∙ c.in_err-take.was) c.take.ensures.bytes in
+    let e = walk_stops w.self.count c.args.sheets.now w.self.bytes.now w.sheet-index _ w.invariant.0 _ _ c.take.new.self.bytes.now c.loop-sheet-test.true c.take.ensures.value c.in_err-take.was c.take.ensures.bytes in
     let same : c.from_residual.result ≡ c.take.result = search rules in
     record {
       value = same ∙ c.take.ensures.value ∙ ap (λ (x : Bool × List ℕ). page_found x.0) e;
@@ -21,12 +21,6 @@ returns-in_err-take c =
       lender = c.take.ensures.lender ∙ w.invariant.1;
       owned = search rules;
     }
-
-pub loop-sheet-preserved : goal.loop-sheet-preserved
-loop-sheet-preserved c =
-    let w = c.loop-sheet in
-    let more = walk_on w.self.count c.args.sheets.now w.self.bytes.now w.sheet-index _ w.invariant.0 _ c.take.new.self.bytes.now c.loop-sheet-test.true (sym c.take.ensures.value ∙ c.in_ok-take.was) c.take.ensures.bytes in
-    (ap (λ n. walked n (drop (w.sheet-index + 1) c.args.sheets.now) c.take.new.self.bytes.now) c.take.ensures.count ∙ more, c.take.ensures.lender ∙ w.invariant.1)
 
 pub returns : goal.returns
 returns c =
