@@ -1,5 +1,5 @@
 -- The check's walk over the sheets, by the scratch and by the sheets alone.
-use Rattle.std.proofs.Common.{◌≡◌, ℕ, ◌+◌, ◌*◌, ◌<◌, ◌≤◌, Bool, true, false, cond, eqb, List, [], ◌∷◌, length, get_or, take, drop, set, Result, Ok, Err, is_ok, sym, refl, ap, ap₂, ◌∙◌, ⊎_elim, arith}
+use Rattle.std.proofs.Common.{◌≡◌, ℕ, ◌+◌, ◌*◌, ◌<◌, ◌≤◌, Bool, true, false, cond, eqb, List, [], ◌∷◌, length, get_or, take, drop, set, Result, Ok, Err, sym, refl, ap, ap₂, ◌∙◌, ⊎_elim, arith}
 use Rattle.std.proofs.lemmas.List.{at_drop_more, at_drop_all, length-set, get_or-set_same, get_or-set_other}
 use Rattle.std.proofs.lemmas.Bool.{cond-true, cond-false, cases_Bool}
 use Rattle.std.proofs.lemmas.Bool.Decides.{nat_tests}
@@ -13,10 +13,6 @@ use Rattle.sheets.specs.Checks.{byte_of, good_after, good_sheets, marked, cleare
 found_good : (g : Bool) (x : Unit {0}) → page_found g ≡ Ok x → g ≡ true
 found_good true x e = refl
 found_good false x e = cc
-
-pub found_all : (g : Bool) → is_ok (page_found g) ≡ true → g ≡ true
-found_all true e = refl
-found_all false e = cc
 
 found_bad : (g : Bool) (x : SheetFault) → page_found g ≡ Err x → g ≡ false
 found_bad true x e = cc
@@ -86,8 +82,7 @@ walk_is n before (s ∷ ss) t long shows =
     (λ (g : good_after n before s ≡ false). grind (arith, nat_tests))
     (cases_Bool (good_after n before s))
 
-pub walk_cleared : (n : ℕ) (ss : List Sheet) (t : List ℕ) → n * block_pages ≤ length t
-    → walked n ss (cleared n t) ≡ given (good_sheets n [] ss) ss (cleared n t)
-walk_cleared n ss t long =
+pub walk_cleared : (n : ℕ) (ss : List Sheet) (t u : List ℕ) → n * block_pages ≤ length t → u ≡ cleared n t → walked n ss u ≡ given (good_sheets n [] ss) ss (cleared n t)
+walk_cleared n ss t u long e =
     let longer : n * block_pages ≤ length (cleared n t) = let e = length-filled 0 0 (n * block_pages) t (omega arith) in omega arith in
-    walk_is n [] ss (cleared n t) longer (shows_none n t long)
+    ap (walked n ss) e ∙ walk_is n [] ss (cleared n t) longer (shows_none n t long)

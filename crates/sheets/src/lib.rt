@@ -244,7 +244,7 @@ impl PageMap<'_> {
     }
 
     // Frees all pages, then gives each sheet its own, up to the first whose page is not free.
-    #[tactic(auto, using(crate::proofs::Walks::walk_on))]
+    #[tactic(auto, using(crate::proofs::Walks::walk_cleared, crate::proofs::Walks::walk_on, crate::proofs::Walks::walk_stops, crate::proofs::Walks::walk_ends))]
     fn take_each(&mut self, sheets: &[Sheet]) -> Result<(), SheetFault>
         ensures value { result ≡ page_found (good_sheets self.old.count [] sheets.now == length sheets.now) }
         ensures bytes { self.new.bytes.now ≡ marked (take (good_sheets self.old.count [] sheets.now) sheets.now) (cleared self.old.count self.old.bytes.now) }
