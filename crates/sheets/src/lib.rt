@@ -7,7 +7,7 @@ ghost use Rattle.flash.specs.Geometry.{block_pages};
 ghost use Rattle.flash.specs.Meaning.{word_at, outcome_of, programmable, after_program, erasable, after_erase};
 ghost use Rattle.flash.specs.Refusals.{refusal};
 ghost use Rattle.sheets.specs.Pages.{is_of};
-ghost use Rattle.sheets.specs.Checks.{number_of, lists_fit, byte_of, good_sheets, marked, cleared, good_now, walked, page_found, sheet_check, scratch_after};
+ghost use Rattle.sheets.specs.Checks.{number_of, lists_fit, byte_of, good_sheets, marked, cleared, good_now, page_found, sheet_check, scratch_after};
 ghost use Rattle.sheets.specs.Contents.{seat_of, written, sheets_programmed, words_programmed, unmarked as without_mark, sheets_erased};
 ghost use Rattle.sheets.specs.Bounds.{capped, narrow};
 ghost use Rattle.sheets.specs.Held.{meant, Kept};
