@@ -5,7 +5,7 @@ ghost use Rattle.std.specs.Prelude.{◌≡◌, length, is_some, if◌then◌else
 ghost use Rattle.flash.specs.Meaning.{word_at, outcome_of, programmable, after_program, erasable, after_erase};
 ghost use Rattle.flash.specs.Refusals.{refusal};
 ghost use Rattle.image.specs.Checks.{number_of, image_check};
-ghost use Rattle.image.specs.Contents.{blocks, place_of, words_programmed, words_erased};
+ghost use Rattle.image.specs.Contents.{place_of, words_programmed, words_erased};
 ghost use Rattle.image.specs.Held.{meant, Kept};
 ghost use Rattle.image.specs.Bounds.{capped, narrow};
 
@@ -87,6 +87,7 @@ impl<'a> Image<'a> {
 impl Array for Image<'_> {
     ghost meaning = { meant };
 
+    // How many blocks the lists make.
     fn count(&self) -> usize {
         let n = self.worn.len();
         if n <= MAX_BLOCKS && self.words.len() == n * BLOCK_WORDS {

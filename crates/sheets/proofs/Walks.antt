@@ -1,5 +1,5 @@
 -- The check's walk over the sheets, by the scratch and by the sheets alone.
-use Rattle.std.proofs.Common.{◌≡◌, ℕ, ◌+◌, ◌*◌, ◌<◌, ◌≤◌, Bool, true, false, cond, eqb, List, [], ◌∷◌, length, get_or, take, drop, set, Ok, Err, is_ok, sym, refl, ap, ap₂, ◌∙◌, ⊎_elim, arith}
+use Rattle.std.proofs.Common.{◌≡◌, ℕ, ◌+◌, ◌*◌, ◌<◌, ◌≤◌, Bool, true, false, cond, eqb, List, [], ◌∷◌, length, get_or, take, drop, set, Result, Ok, Err, sym, refl, ap, ap₂, ◌∙◌, ⊎_elim, arith}
 use Rattle.std.proofs.lemmas.List.{at_drop_more, at_drop_all, length-set, get_or-set_same, get_or-set_other}
 use Rattle.std.proofs.lemmas.Bool.{cond-true, cond-false, cases_Bool}
 use Rattle.std.proofs.lemmas.Bool.Decides.{nat_tests}
@@ -13,10 +13,6 @@ use Rattle.sheets.specs.Checks.{byte_of, good_after, good_sheets, marked, cleare
 found_good : (g : Bool) (x : Unit {0}) → page_found g ≡ Ok x → g ≡ true
 found_good true x e = refl
 found_good false x e = cc
-
-pub found_all : (g : Bool) → is_ok (page_found g) ≡ true → g ≡ true
-found_all true e = refl
-found_all false e = cc
 
 found_bad : (g : Bool) (x : SheetFault) → page_found g ≡ Err x → g ≡ false
 found_bad true x e = cc
@@ -34,14 +30,14 @@ module _ (n : ℕ) (ss : List Sheet) (t : List ℕ) (i : ℕ) (all : Bool × Lis
   unfolding walked
   step within = at_drop_more (λ xs. walked n xs t) ss i no_sheet within
 
-  pub walk_on : (x : Unit {0}) (u : List ℕ) → i < length ss → page_found good ≡ Ok x → u ≡ cond good after t → walked n (drop (i + 1) ss) u ≡ all
-  walk_on x u within f e =
-      let g = found_good good x f in
-      ap (walked n (drop (i + 1) ss)) (e ∙ cond-true _ _ _ g) ∙ sym (step within ∙ cond-true _ _ _ g) ∙ so_far
+  pub walk_on : (m : ℕ) (r : Result (Unit {0}) SheetFault) (x : Unit {0}) (u : List ℕ) → i < length ss → r ≡ page_found good → r ≡ Ok x → u ≡ cond good after t → m ≡ n → walked m (drop (i + 1) ss) u ≡ all
+  walk_on m r x u within v f e same =
+      let g = found_good good x (sym v ∙ f) in
+      ap₂ (λ k xs. walked k (drop (i + 1) ss) xs) same (e ∙ cond-true _ _ _ g) ∙ sym (step within ∙ cond-true _ _ _ g) ∙ so_far
 
-  pub walk_stops : (x : SheetFault) (u : List ℕ) → i < length ss → page_found good ≡ Err x → u ≡ cond good after t → (good, u) ≡ all
-  walk_stops x u within f e =
-      let g = found_bad good x f in
+  pub walk_stops : (r : Result (Unit {0}) SheetFault) (x : SheetFault) (u : List ℕ) → i < length ss → r ≡ page_found good → r ≡ Err x → u ≡ cond good after t → (good, u) ≡ all
+  walk_stops r x u within v f e =
+      let g = found_bad good x (sym v ∙ f) in
       ap₂ (λ r v. (r, v)) g (e ∙ cond-false _ _ _ g) ∙ sym (step within ∙ cond-false _ _ _ g) ∙ so_far
 
   pub walk_ends : length ss ≤ i → (true, t) ≡ all
@@ -70,7 +66,7 @@ same_test : (n : ℕ) (before : List Sheet) (t : List ℕ) (s : Sheet) → Shows
 same_test n before t s shows = grind (arith, nat_tests, shows)
 
 -- what the walk gives, by how many sheets are good
-abbrev given : ℕ → List Sheet → List ℕ → Bool × List ℕ
+abbrev pub given : ℕ → List Sheet → List ℕ → Bool × List ℕ
 given k ss t = (eqb k (length ss), marked (take k ss) t)
 
 walk_is : (n : ℕ) (before ss : List Sheet) (t : List ℕ) → n * block_pages ≤ length t → Shows n before t → walked n ss t ≡ given (good_sheets n before ss) ss t
@@ -86,8 +82,7 @@ walk_is n before (s ∷ ss) t long shows =
     (λ (g : good_after n before s ≡ false). grind (arith, nat_tests))
     (cases_Bool (good_after n before s))
 
-pub walk_cleared : (n : ℕ) (ss : List Sheet) (t : List ℕ) → n * block_pages ≤ length t
-    → walked n ss (cleared n t) ≡ (eqb (good_sheets n [] ss) (length ss), marked (take (good_sheets n [] ss) ss) (cleared n t))
-walk_cleared n ss t long =
+pub walk_cleared : (n : ℕ) (ss : List Sheet) (t u : List ℕ) → n * block_pages ≤ length t → u ≡ cleared n t → walked n ss u ≡ given (good_sheets n [] ss) ss (cleared n t)
+walk_cleared n ss t u long e =
     let longer : n * block_pages ≤ length (cleared n t) = let e = length-filled 0 0 (n * block_pages) t (omega arith) in omega arith in
-    walk_is n [] ss (cleared n t) longer (shows_none n t long)
+    ap (walked n ss) e ∙ walk_is n [] ss (cleared n t) longer (shows_none n t long)

@@ -7,8 +7,8 @@ ghost use Rattle.flash.specs.Geometry.{block_pages};
 ghost use Rattle.flash.specs.Meaning.{word_at, outcome_of, programmable, after_program, erasable, after_erase};
 ghost use Rattle.flash.specs.Refusals.{refusal};
 ghost use Rattle.sheets.specs.Pages.{is_of};
-ghost use Rattle.sheets.specs.Checks.{number_of, lists_fit, byte_of, good_sheets, marked, cleared, good_now, walked, page_found, sheet_check, scratch_after};
-ghost use Rattle.sheets.specs.Contents.{blocks, seat_of, written, sheets_programmed, words_programmed, unmarked as without_mark, sheets_erased};
+ghost use Rattle.sheets.specs.Checks.{number_of, lists_fit, byte_of, good_sheets, marked, cleared, good_now, page_found, sheet_check, scratch_after};
+ghost use Rattle.sheets.specs.Contents.{seat_of, written, sheets_programmed, words_programmed, unmarked as without_mark, sheets_erased};
 ghost use Rattle.sheets.specs.Bounds.{capped, narrow};
 ghost use Rattle.sheets.specs.Held.{meant, Kept};
 ghost use Rattle.sheets.specs.Laws.{OwnsPage};
@@ -62,29 +62,6 @@ impl Sheet {
         ensures { result ≡ byte_of self }
     {
         self.block as usize * BLOCK_PAGES + self.page as usize
-    }
-
-    // Whether the sheet's page is in the array and not marked in the scratch.
-    fn is_good(self, count: usize, scratch: &[u8]) -> bool
-        requires { count * block_pages ≤ length scratch.now }
-        ensures { result ≡ good_now count scratch.now self }
-    {
-        (self.block as usize) < count
-            && (self.page as usize) < BLOCK_PAGES
-            && scratch[self.byte()] == 0
-    }
-
-    // Marks the sheet's page in the scratch, if it is good.
-    fn mark(self, count: usize, scratch: &mut [u8]) -> Result<(), SheetFault>
-        requires { count * block_pages ≤ length scratch.old }
-        ensures value { result ≡ page_found (good_now count scratch.old self) }
-        ensures scratch { scratch.new ≡ (if good_now count scratch.old self then slice_set scratch.old (byte_of self) 1 else scratch.old) }
-    {
-        if !self.is_good(count, scratch) {
-            return Err(SheetFault::Page);
-        }
-        scratch[self.byte()] = 1;
-        Ok(())
     }
 }
 
@@ -158,23 +135,12 @@ impl<'a> Sheets<'a> {
         }
     }
 
-    // How many blocks the lists make.
-    fn blocks(&self) -> usize
-        ensures { result ≡ blocks self.now.count self.now.sheets.now self.now.words.now }
-    {
-        if lists_fit(self.count, self.sheets, self.words) {
-            self.count
-        } else {
-            0
-        }
-    }
-
     // The sheet that has the word.
     #[tactic(auto, using(crate::proofs::Finding::found))]
     fn seat(&self, at: Location) -> Option<usize>
         ensures { result ≡ seat_of self.now.count self.now.sheets.now self.now.words.now at.block at.page at.word }
     {
-        if at.block < self.blocks() && at.page < BLOCK_PAGES && at.word < PAGE_WORDS {
+        if at.block < self.count() && at.page < BLOCK_PAGES && at.word < PAGE_WORDS {
             find(self.sheets, at.block, at.page)
         } else {
             None
@@ -187,8 +153,13 @@ impl<'a> Sheets<'a> {
 impl Array for Sheets<'_> {
     ghost meaning = { meant };
 
+    // How many blocks the lists make.
     fn count(&self) -> usize {
-        self.blocks()
+        if lists_fit(self.count, self.sheets, self.words) {
+            self.count
+        } else {
+            0
+        }
     }
 
     fn read(&mut self, at: Location) -> u16
@@ -228,7 +199,7 @@ impl Array for Sheets<'_> {
         ensures words { self.new.words.now ≡ self.old.words.now }
         ensures kept { Kept self.old self.new }
     {
-        if block >= self.blocks() {
+        if block >= self.count() {
             return Err(Failed);
         }
         unmark(self.sheets, block);
@@ -240,27 +211,52 @@ impl Array for Sheets<'_> {
     ghost narrow = { λ s. narrow s.count s.sheets.now s.words.now };
 }
 
-// Marks the page of each sheet, up to the first that is not good.
-fn mark_pages(count: usize, sheets: &[Sheet], scratch: &mut [u8]) -> Result<(), SheetFault>
-    requires { count * block_pages ≤ length scratch.old }
-    ensures value { result ≡ page_found (walked count sheets.now scratch.old).0 }
-    ensures scratch { scratch.new ≡ (walked count sheets.now scratch.old).1 }
-{
-    for sheet in sheets {
-        sheet.mark(count, scratch)?;
-    }
-    Ok(())
+// Which pages of `count` blocks have a sheet: a byte each in the caller's scratch, not 0 where one has.
+#[derive(Drop)]
+struct PageMap<'a> {
+    count: usize,
+    bytes: &'a mut [u8],
+    ghost roomy: { count * block_pages ≤ length bytes.now },
 }
 
-// The same in a scratch that is cleared first: whether each sheet has a page of its own.
-fn check_pages(count: usize, sheets: &[Sheet], scratch: &mut [u8]) -> Result<(), SheetFault>
-    requires { count * block_pages ≤ length scratch.old }
-    ensures value { result ≡ page_found (good_sheets count [] sheets.now == length sheets.now) }
-    ensures scratch { scratch.new ≡ marked (take (good_sheets count [] sheets.now) sheets.now) (cleared count scratch.old) }
-    ensures owned { is_ok result ≡ true → (k : ℕ) → k < length sheets.now → OwnsPage count sheets.now k }
-{
-    fill(scratch, 0, count * BLOCK_PAGES, 0);
-    mark_pages(count, sheets, scratch)
+impl PageMap<'_> {
+    // Whether the sheet's page is in the array and no sheet has it yet.
+    fn is_free(&self, sheet: Sheet) -> bool
+        ensures { result ≡ good_now self.now.count self.now.bytes.now sheet }
+    {
+        (sheet.block as usize) < self.count
+            && (sheet.page as usize) < BLOCK_PAGES
+            && self.bytes[sheet.byte()] == 0
+    }
+
+    // Gives the sheet its page, if it is free.
+    fn take(&mut self, sheet: Sheet) -> Result<(), SheetFault>
+        ensures value { result ≡ page_found (good_now self.old.count self.old.bytes.now sheet) }
+        ensures bytes { self.new.bytes.now ≡ (if good_now self.old.count self.old.bytes.now sheet then slice_set self.old.bytes.now (byte_of sheet) 1 else self.old.bytes.now) }
+        ensures count { self.new.count ≡ self.old.count }
+        ensures lender { self.new.bytes.ghost_name ≡ self.old.bytes.ghost_name }
+    {
+        if !self.is_free(sheet) {
+            return Err(SheetFault::Page);
+        }
+        self.bytes[sheet.byte()] = 1;
+        Ok(())
+    }
+
+    // Frees all pages, then gives each sheet its own, up to the first whose page is not free.
+    #[tactic(auto, using(crate::proofs::Walks::walk_cleared, crate::proofs::Walks::walk_on, crate::proofs::Walks::walk_stops, crate::proofs::Walks::walk_ends))]
+    fn take_each(&mut self, sheets: &[Sheet]) -> Result<(), SheetFault>
+        ensures value { result ≡ page_found (good_sheets self.old.count [] sheets.now == length sheets.now) }
+        ensures bytes { self.new.bytes.now ≡ marked (take (good_sheets self.old.count [] sheets.now) sheets.now) (cleared self.old.count self.old.bytes.now) }
+        ensures lender { self.new.bytes.ghost_name ≡ self.old.bytes.ghost_name }
+        ensures owned { is_ok result ≡ true → (k : ℕ) → k < length sheets.now → OwnsPage self.old.count sheets.now k }
+    {
+        fill(self.bytes, 0, self.count * BLOCK_PAGES, 0);
+        for sheet in sheets {
+            self.take(*sheet)?;
+        }
+        Ok(())
+    }
 }
 
 // Whether the sheets are a sound list for `count` blocks: then each is the one that its page reads from. It works in a scratch of 64 bytes a block.
@@ -281,5 +277,9 @@ pub fn check(
     if scratch.len() < count * BLOCK_PAGES {
         return Err(SheetFault::Scratch);
     }
-    check_pages(count, sheets, scratch)
+    let mut map = PageMap {
+        count,
+        bytes: scratch,
+    };
+    map.take_each(sheets)
 }
