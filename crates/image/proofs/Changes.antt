@@ -32,9 +32,6 @@ module _ (ws wn : List ℕ) (b p w v : ℕ) (h : v < 2 ^ 16) (t : programmable (
   abbrev x : ℕ
   x = bit_and (get_or ws at 0) v
 
-  within : at < length ws
-  within = grind (arith, nat_tests, place_in)
-
   each : (b' p' w' : ℕ) → (image_meaning (set ws at x) wn).word b' p' w' ≡ (programmed (image_meaning ws wn) b p w v).word b' p' w'
   each b' p' w' =
       let kept = and_16 (get_or ws at 0) v h in

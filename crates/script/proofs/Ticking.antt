@@ -33,8 +33,5 @@ module _ (count done : ℕ) (s s' : State) (r : Result Progress Refusal) (more :
 
   -- it was refused
   module _ (stops : true ≡ is_err r) where
-    pub ran_up : ran (count - done) s ≡ 0
-    ran_up = ap (λ n. ran n s) one_of ∙ ap (λ b. cond b 0 (suc (ran left (step s Tick).0))) (is_it true stops)
-
     pub state_up : after s (ticks_put (count - done) s) ≡ s'
     state_up = ap (λ n. after s (ticks_put n s)) one_of ∙ ap (λ b. after (step s Tick).0 (cond b [] (ticks_put left (step s Tick).0))) (is_it true stops) ∙ sym led
