@@ -6,5 +6,4 @@ ghost use Rattle.onenand_cases.specs.Cases.{HandChecked};
 // Has no work: its contract is the theorem that every hand-checked case holds.
 pub fn hand_checked()
     ensures { HandChecked }
-{
-}
+{}
