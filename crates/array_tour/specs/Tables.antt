@@ -1,8 +1,8 @@
 -- A table of words in a page, and what the tour makes of an array.
-use Rattle.std.specs.Prelude.{ℕ, ◌+◌, List, [], ◌∷◌, ◌++◌, ◌-◌, ◌^◌, true, false, slice_index, Ok, Err, Result, codes}
-use Rattle.std.specs.Fmt.{digits, padded_integral, format_spec}
+use Rattle.std.specs.Prelude.{ℕ, ◌+◌, List, [], ◌∷◌, ◌++◌, slice_index, Ok, Err, Result, codes}
 use Rattle.flash.specs.Meaning.{Meaning, word_at, after_program, after_erase}
 use Rattle.flash.specs.declared.Failed.{Failed}
+use Rattle.flash.specs.Texts.{hex_word}
 
 -- the array after a table was programmed, word after word, from word i of a page on
 unfoldable pub stored : Meaning → ℕ → ℕ → ℕ → List ℕ → Meaning
@@ -23,10 +23,6 @@ told (Err e) = codes "failed"
 abbrev pub toured : Meaning → ℕ → ℕ → List ℕ → List ℕ → ℕ → ℕ → ℕ → Meaning
 toured m b p first second d q c =
     after_erase (after_erase (after_program (stored (stored m b p 0 first) b p 0 second) d q 0 0) c) b
-
--- a word in four hexadecimal digits, as `{:04X}` prints it
-abbrev pub hex_word : ℕ → List ℕ
-hex_word v = padded_integral (format_spec 32 0 4 4 (2 ^ 64 - 1)) false [] (digits 16 true v)
 
 -- four words with a space between each two
 abbrev pub four_text : List ℕ → List ℕ

@@ -71,12 +71,19 @@ fn read_four<D: Array>(array: &mut D, page: Page) -> [u16; 4]
     four
 }
 
-// How it is told whether an array did what it was asked.
-// Stays: `Result` is the library's type, so no Display of ours can tell it.
-fn tell(answer: Result<(), Failed>) -> &'static str
-    ensures { result.now ≡ told answer }
-{
-    if answer.is_ok() { "done" } else { "failed" }
+// Whether an array did what it was asked, as it is told.
+#[derive(Clone, Copy)]
+struct Told(Result<(), Failed>);
+
+impl fmt::Display for Told {
+    ghost output = { λ it. Some (told it.0) };
+
+    fn fmt<W: fmt::Write>(&self, f: &mut fmt::Formatter<W>) -> fmt::Result {
+        match self.0 {
+            Ok(()) => write!(f, "done"),
+            Err(Failed) => write!(f, "failed"),
+        }
+    }
 }
 
 // Prints what was done, and the first four words of a page after it; the array stays as it is.
@@ -108,15 +115,15 @@ fn tour<D: Array>(rt: &HostRuntime, array: &mut D, dead: Page, beyond: usize) ->
         array,
         TABLE_PAGE,
     )?;
-    let into_dead = tell(array.program(dead.word(0), 0));
+    let into_dead = Told(array.program(dead.word(0), 0));
     println!(rt;
         "  0000 into dead page {} of block {}: {into_dead}",
         dead.page, dead.block
     )?;
     print_page(rt, "the dead page", array, dead)?;
-    let gone = tell(array.erase(beyond));
+    let gone = Told(array.erase(beyond));
     println!(rt; "  erase of block {beyond}, which is not there: {gone}")?;
-    let erased = tell(array.erase(TABLE_PAGE.block));
+    let erased = Told(array.erase(TABLE_PAGE.block));
     println!(rt; "  erase of block 1: {erased}")?;
     print_page(rt, "block 1, page 4", array, TABLE_PAGE)
 }
@@ -129,7 +136,7 @@ fn with_image(rt: &HostRuntime) -> anyhow::Result<()> {
     print_check(rt, image::check(words.as_slice(), &worn))?;
     let mut array = Image::new(words.as_mut_slice(), &worn);
     tour(rt, &mut array, Page { block: 2, page: 0 }, 3)?;
-    let worn_block = tell(array.erase(2));
+    let worn_block = Told(array.erase(2));
     println!(rt; "  erase of worn block 2: {worn_block}")?;
     Ok(())
 }

@@ -1,19 +1,15 @@
 -- How an answer is printed.
-use Rattle.std.specs.Prelude.{ℕ, ◌-◌, ◌^◌, true, false, List, [], ◌++◌, Ok, Err, Result, codes, decimal}
-use Rattle.std.specs.Fmt.{digits, padded_integral, format_spec}
+use Rattle.std.specs.Prelude.{ℕ, List, ◌++◌, Ok, Err, Result, codes, decimal}
+use Rattle.flash.specs.Texts.{hex_word}
 use Rattle.onenand_rules.specs.declared.calls.Answer.{Answer}
 use Rattle.onenand_rules.specs.declared.calls.Answer.TheVariants.{Word, Done, Ticked}
 use Rattle.onenand_rules.specs.declared.calls.Progress.TheVariants.{Running, Ended}
 use Rattle.onenand_rules.specs.declared.calls.Refusal.{Refusal}
 use Rattle.onenand_rules.specs.Calls.{number_of}
 
--- a word as four upper-case hexadecimal digits
-abbrev pub hex4 : ℕ → List ℕ
-hex4 w = padded_integral (format_spec 32 0 4 4 (2 ^ 64 - 1)) false [] (digits 16 true w)
-
 -- a read's word, a tick's 1 or 0, or the number of a refusal
 abbrev pub text : Result Answer Refusal → List ℕ
-text (Ok (Word w)) = hex4 w
+text (Ok (Word w)) = hex_word w
 text (Ok Done) = codes "done"
 text (Ok (Ticked Running)) = codes "1"
 text (Ok (Ticked Ended)) = codes "0"

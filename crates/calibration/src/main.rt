@@ -144,6 +144,7 @@ const CUT: [Order; 1] = [Order {
 type Answered = Result<Answer, Refusal>;
 
 // Some first calls, and then a command with its ticks.
+// Stays: tried as a method of `Order`; there the check did not find its clause.
 fn command(heap: Global, first: &[Call], code: u16, ticks: usize) -> Result<Vec<Call>, AllocError>
     ensures { IfOk result (λ v. v.items ≡ first.now ++ order code ticks) }
 {

@@ -103,8 +103,8 @@ pub fn spare_word(sector: usize, i: usize) -> Option<usize>
 fn set_all<T: Copy>(items: &mut [T], item: T)
     ensures { items.new ≡ replicate (length items.old) item }
 {
-    // Stays: the library's `fill` asks for a `clone` that cannot fail, which `T: Copy` does not say, and of `fill_with` a
-    // proof has to follow the state of the closure.
+    // Stays: the library's `fill` asks for a `clone` that cannot fail, which `T: Copy` does not say; of `fill_with` a proof
+    // knows the runs of the closure, and was left open.
     for x in items {
         *x = item;
     }

@@ -32,6 +32,8 @@ impl Numbered for ImageFault {
 }
 
 // Whether an image can be made of the words and the worn list.
+// Stays: `Image` holds what it may write, and this only reads, before there is an array, so to take one would ask more of
+// the caller.
 pub fn check(words: &[u16], worn: &[u8]) -> Result<(), ImageFault>
     ensures { refusal number_of result ≡ image_check words.now worn.now }
 {
@@ -45,7 +47,8 @@ pub fn check(words: &[u16], worn: &[u8]) -> Result<(), ImageFault>
 }
 
 // Words, block after block and page after page, with one worn byte a block: not 0 where the block is dead.
-// Stays: two lists side by side, since the caller lends them so and the array has no memory of its own.
+// Stays: two lists side by side, and a byte where a `bool` would do, since the caller lends them so and the array has no
+// memory of its own.
 #[derive(Drop)]
 pub struct Image<'a> {
     words: &'a mut [u16],

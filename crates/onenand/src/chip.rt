@@ -96,7 +96,8 @@ impl<D: Array> Chip<D> {
     }
 
     // One tick of the running command.
-    // Stays: a match on what runs, which is the chip's own state.
+    // Stays: a match on what runs, since the plan is read back by `takes`, `is_busy` and `Row::of`, and a closure in its
+    // place could not be.
     pub fn tick(&mut self) -> Result<Progress, Refusal>
         ensures answer { tick_reply result ≡ (step (state_of self.old) tick_call).1 }
         ensures state { state_of self.new ≡ (step (state_of self.old) tick_call).0 }

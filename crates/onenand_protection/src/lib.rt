@@ -54,7 +54,8 @@ pub struct Protection {
     pub last: u16,
 }
 
-// Stays: the chip's table has room for more blocks than its array has, so each method takes both the table and the number.
+// Stays: a command that is obeyed makes the whole table anew, past the n blocks of the array too, so a slice of n blocks
+// would not do for both.
 impl Protection {
     // Whether block b is in the range.
     fn covers(self, b: usize) -> bool

@@ -22,7 +22,7 @@ pub enum Place {
     Status,
     Interrupt,
     Protection,
-    // Stays: that an address leads nowhere is one of the answers of the decision, in the order of the rules, and not an absence.
+    // Stays: as `Option<Place>` each arm of both tables would say `Some`, and a read and a write would match it all the same.
     Unassigned,
 }
 
@@ -55,8 +55,7 @@ fn register(addr: u16) -> Place
 }
 
 // Where an address leads: the RAM areas, then the registers, which all stand from F000h on.
-// Stays: ranges and guards decide it, and most addresses lead nowhere, so it is a decision, and no conversion of one value
-// into another.
+// Stays: an address is a `u16` as every word is, and `Place::from` would not say which of them is meant.
 pub fn place_of(addr: u16) -> Place
     ensures { result ≡ place_of addr }
 {

@@ -76,8 +76,7 @@ impl Operands {
         }
     }
 
-    // Stays: one function that lends the register would serve get and put, but its clause would have to say what a write
-    // through the loan makes of all seven, which `put` says plainly.
+    // Stays: `get` reads operands that are only shared, so a function that lends the register for writing cannot serve both.
     fn put(&mut self, o: Operand, w: u16)
         ensures { self.new ≡ operand_put self.old o w }
     {

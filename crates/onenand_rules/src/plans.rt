@@ -25,7 +25,7 @@ pub enum Plan {
 }
 
 // What runs, and how many ticks it has had.
-// Stays: the chip idles or runs a plan, as the rules say it; None and Some of a pair would say less.
+// Stays: `takes` and `is_busy` are its methods, which the library's `Option<(Plan, u16)>` could not have.
 #[derive(Clone, Copy, PartialEq, Eq, Debug)]
 pub enum Running {
     Idle,
@@ -48,6 +48,7 @@ pub enum Action {
 
 impl Plan {
     // How many ticks it takes at most.
+    // Stays: two clauses say the bounds of the plain number, as of a transfer's words.
     pub fn ticks(self) -> u16
         ensures value { result ≡ ticks_of self }
         ensures some { 0 < result }

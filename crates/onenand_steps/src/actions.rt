@@ -73,7 +73,8 @@ fn set_locks<D: Array>(array: &D, core: &mut Core, protection: Protection)
 
 // Does what one tick does. Where it fails, the command ends with Error.
 // Stays: an action is data, as the plan is that the chip keeps from tick to tick, and the rules go by its cases; a closure
-// could not be kept so. Array and core go together here as the chip's two parts, which it holds side by side.
+// could not be kept so. And only the chip, a crate above, holds array and core, with a row beside them; a struct of the two
+// would be made for each tick and taken apart again.
 pub fn act<D: Array>(array: &mut D, core: &mut Core, action: Action) -> Result<(), Failed>
     ensures value { result ≡ outcome_of (succeeds (D.meaning array.old) action) }
     ensures core { core.new ≡ core_acted core.old (D.meaning array.old) action }

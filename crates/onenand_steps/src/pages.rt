@@ -29,8 +29,8 @@ pub(crate) fn is_blank<D: Array>(array: &mut D, block: usize, page: usize) -> bo
     ensures value { result ≡ blank (D.meaning array.old) block page 528 }
     ensures same { D.meaning array.new ≡ D.meaning array.old }
 {
-    // Stays: the closure of an `all` would read the array through a `&mut`, and a proof would have to follow how the closure
-    // is left; the loop says it in its invariant.
+    // Stays: `all` would hold the array in its closure, and that the array means the same afterwards would have to be followed
+    // through the closure's runs; the loop says it in its invariant.
     for word in 0..PAGE_WORDS {
         if array.read(Location { block, page, word }) != BLANK {
             return false;

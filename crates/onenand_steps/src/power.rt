@@ -26,7 +26,8 @@ fn fresh_core(device: u16, version: u16, bootram: [u16; PAGE_WORDS]) -> Core
 }
 
 // What a chip holds as its power comes on over an array. The array stays as it is.
-// Stays: a chip's two identity words are given once, as it is made, and a struct of them would be named there alone.
+// Stays: the definitions, and the registers that show them, take the two identity words apart; a struct of them would be
+// made at each call and opened in each clause.
 pub fn core_over<D: Array>(array: &mut D, device: u16, version: u16) -> Core
     ensures { state_for result (D.meaning array.new) ≡ powered_up device version (D.meaning array.old) }
 {

@@ -24,6 +24,8 @@ pub fn set_word(words: &mut [u16], i: usize, w: u16)
 }
 
 // Loads a word of the array into DataRAM.
+// Stays: DataRAM and a place in it go together here and below. One value of both is what a slice's `get_mut` lends, and of a
+// write through that no proof learns what the words are.
 pub(crate) fn load<D: Array>(array: &mut D, at: Location, dataram: &mut [u16], place: usize)
     ensures words { dataram.new ≡ slice_set dataram.old place (word_at (D.meaning array.old) at.block at.page at.word) }
     ensures flash { D.meaning array.new ≡ D.meaning array.old }
@@ -45,6 +47,7 @@ pub(crate) fn program<D: Array>(
 }
 
 // Moves word o of a row, if the array takes it.
+// Stays: a match on the way of a row, which is data that the row keeps.
 pub fn move_word<D: Array>(
     array: &mut D,
     dataram: &mut [u16],

@@ -69,7 +69,8 @@ fn sector_of(x: u16) -> u16
 
 impl Transfer {
     // How many words move.
-    // Stays: the bounds stand beside the value, since a type says neither, and sums of ticks rest on both.
+    // Stays: a number that knows its bounds would be opened at each sum and each comparison; two clauses say the same of the
+    // plain number.
     #[tactic(auto, unfolding(crate::specs::Transfers::size))]
     pub fn words(self) -> u16
         ensures value { result ≡ word_count self }

@@ -19,6 +19,7 @@ use flash::{Array, BLANK, BLOCK_PAGES, Failed, Location, MAX_BLOCKS, Numbered, P
 pub const MAX_SHEETS: usize = 64;
 
 // A page that is there: which one it is, and whether anything was programmed since its last erase (not 0).
+// Stays: the mark is a byte, since any but 0 counts and is left as it is; a `bool` would ask more of callers.
 #[derive(Clone, Copy, PartialEq, Eq, Debug)]
 pub struct Sheet {
     pub block: u16,
@@ -260,7 +261,8 @@ impl PageMap<'_> {
 }
 
 // Whether the sheets are a sound list for `count` blocks: then each is the one that its page reads from. It works in a scratch of 64 bytes a block.
-// Stays: count, sheets and words go together as `Sheets` once it is made, and this looks at them before; the scratch is the caller's.
+// Stays: `Sheets` holds what it may write, and this only reads, before there is an array, so to take one would ask more of
+// the caller.
 pub fn check(
     count: usize,
     sheets: &[Sheet],
