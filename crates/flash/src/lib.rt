@@ -37,6 +37,14 @@ pub struct Failed;
 pub trait Array {
     ghost meaning: { Self → Meaning };
 
+    // No array has more than 256 blocks.
+    // Stays: this fact and the next stand above the functions, since a clause may name them there; below they would be laws,
+    // which no clause can name.
+    ghost capped: { (s : Self) → (meaning s).count ≤ max_blocks };
+
+    // A word has 16 bits.
+    ghost narrow: { (s : Self) (b p w : ℕ) → (meaning s).word b p w < 2 ^ 16 };
+
     // How many blocks there are.
     fn count(&self) -> usize
         ensures { result ≡ (meaning self.now).count };
@@ -55,12 +63,6 @@ pub trait Array {
     fn erase(&mut self, block: usize) -> Result<(), Failed>
         ensures value { result ≡ outcome_of (erasable (meaning self.old) block) }
         ensures after { meaning self.new ≡ after_erase (meaning self.old) block };
-
-    // No array has more than 256 blocks.
-    ghost capped: { (s : Self) → (meaning s).count ≤ max_blocks };
-
-    // A word has 16 bits.
-    ghost narrow: { (s : Self) (b p w : ℕ) → (meaning s).word b p w < 2 ^ 16 };
 }
 
 // A refusal that the rules give a number.

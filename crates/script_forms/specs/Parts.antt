@@ -6,14 +6,14 @@ use Rattle.script_forms.specs.declared.parts.Line.{Line}
 use Rattle.script_forms.specs.declared.parts.Form.{Form}
 use Rattle.script_forms.specs.declared.parts.Kind.{Kind}
 use Rattle.script_forms.specs.declared.parts.Kind.TheVariants.{Read, Write, Tick, Warm, Cold}
-use Rattle.script_forms.specs.Lines.{Reading}
+use Rattle.script_forms.specs.Lines.{Reading, Countable}
 use Rattle.script_forms.specs.Grammar.{Asked, read, write, tick, warm, cold, worth}
 
 -- a call of a reader gave the next line with its number, or nothing where none is left, and the reader stays there
 abbrev pub GivesLine : Reading → Option Line → Reading → Type 0
 GivesLine r given s = MatchOption given
-    ((r.left ≡ []) × (s.left ≡ []) × (s.lines ≡ r.lines))
-    (λ l. (r.left ≡ l.bytes.now ∷ s.left) × (l.number ≡ r.lines + 1) × (s.lines ≡ r.lines + 1))
+    ((r.left ≡ []) × (s.left ≡ []) × (s.lines ≡ r.lines) × Countable s)
+    (λ l. (r.left ≡ l.bytes.now ∷ s.left) × (l.number ≡ r.lines + 1) × (s.lines ≡ r.lines + 1) × Countable s)
 
 -- what a form of a kind asks, by the worth of its numbers
 abbrev pub asked : Kind → Asked

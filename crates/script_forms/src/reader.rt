@@ -23,7 +23,7 @@ impl<'a> Model for Reader<'a> {
 
     ghost view = { λ r. record { left = lines_of r.rest.now; lines = r.lines } };
 
-    ghost invariant = { λ r. r.lines + length r.rest.now < 2 ^ 64 };
+    ghost invariant = { λ r. r.lines + length (lines_of r.rest.now) < 2 ^ 63 };
 }
 
 // How many bytes a script's first line has, without its line feed.
@@ -48,6 +48,7 @@ fn split_line(script: &[u8]) -> (&[u8], &[u8])
 
 impl<'a> Reader<'a> {
     // A reader at the script's start.
+    #[tactic(auto, using(crate::proofs::FirstLine::lines_within))]
     pub fn new(script: &'a [u8]) -> Reader<'a>
         ensures { result ≡ record { left = lines_of script.now; lines = 0 } }
     {

@@ -4,7 +4,7 @@ use Rattle.std.specs.List.{position_or_len, position}
 use Rattle.std.proofs.lemmas.Bool.Decides.{nat_tests}
 use Rattle.flash.specs.Geometry.{block_pages, page_words}
 use Rattle.sheets.specs.declared.Sheet.{Sheet}
-use Rattle.sheets.specs.Pages.{no_sheet, is_of, first_of}
+use Rattle.sheets.specs.Pages.{no_sheet, is_of, first_of, sheet_of}
 use Rattle.sheets.specs.Contents.{blocks, seat_of, unmarked}
 
 -- the library's search stops at the first sheet of a page, which is the one that has the page's words
@@ -13,8 +13,11 @@ unfolding first_of
 first_is_position b p [] = refl
 first_is_position b p (s ∷ ss) = let more = first_is_position b p ss in grind (arith, nat_tests)
 
+pub position_is_sheet : (b p : ℕ) (ss : List Sheet) → position (is_of b p) ss ≡ sheet_of b p ss
+position_is_sheet b p ss = let first = first_is_position b p ss in grind (arith, nat_tests)
+
 pub found : (n : ℕ) (ss : List Sheet) (ws : List ℕ) (b p w : ℕ) → b < blocks n ss ws → p < block_pages → w < page_words → position (is_of b p) ss ≡ seat_of n ss ws b p w
-found n ss ws b p w hb hp hw = let first = first_is_position b p ss in grind (arith, nat_tests)
+found n ss ws b p w hb hp hw = let sheet = position_is_sheet b p ss in grind (arith, nat_tests)
 
 -- the sheet that is found is of the page
 pub first_is_of : (b p : ℕ) (ss : List Sheet) → first_of b p ss < length ss → is_of b p (get_or ss (first_of b p ss) no_sheet) ≡ true
