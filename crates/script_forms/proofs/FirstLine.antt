@@ -1,5 +1,5 @@
 -- A script's first line, and the lines past it.
-use Rattle.std.proofs.Common.{◌≡◌, ℕ, suc, ◌+◌, ◌<◌, ◌≤◌, Bool, true, false, cond, not, eqb, List, [], ◌∷◌, length, take, drop, refl, ap, arith}
+use Rattle.std.proofs.Common.{◌≡◌, ℕ, suc, ◌+◌, ◌<◌, Bool, true, false, cond, not, eqb, List, [], ◌∷◌, length, take, drop, refl, ap, arith}
 use Rattle.std.specs.List.{before_first, after_first, position_or_len}
 use Rattle.script_forms.specs.Lines.{is_feed, onto, lines_of}
 
@@ -17,13 +17,3 @@ first_line (b ∷ bs) h = by (eqb b 10) bs (first_line bs)
         let one : 1 + n ≡ suc n = omega arith in
         let two : suc n + 1 ≡ suc (n + 1) = omega arith in
         rw (one, two) (ap (onto b) (ih (omega arith)))
-
--- a script has no more lines than bytes
-pub lines_within : (bs : List ℕ) → length (lines_of bs) ≤ length bs
-lines_within [] = omega arith
-lines_within (b ∷ bs) = by (eqb b 10) (lines_of bs) (lines_within bs)
-  where
-    by : (t : Bool) (ls : List (List ℕ)) → length ls ≤ length bs → length (cond t ([] ∷ ls) (onto b ls)) ≤ suc (length bs)
-    by true ls h = omega arith
-    by false [] h = omega arith
-    by false (l ∷ ls) h = omega arith

@@ -1,5 +1,5 @@
 -- A script's lines. A line ends at a line feed or at the script's end, and after a last line feed none begins.
-use Rattle.std.specs.Prelude.{ℕ, ◌+◌, ◌^◌, ◌<◌, Bool, cond, List, [], ◌∷◌, ◌==◌, length}
+use Rattle.std.specs.Prelude.{ℕ, Bool, cond, List, [], ◌∷◌, ◌==◌}
 
 -- a byte is a line feed
 abbrev pub is_feed : ℕ → Bool
@@ -14,12 +14,3 @@ onto b (l ∷ ls) = (b ∷ l) ∷ ls
 abbrev pub lines_of : List ℕ → List (List ℕ)
 lines_of [] = []
 lines_of (b ∷ bs) = cond (b == 10) ([] ∷ lines_of bs) (onto b (lines_of bs))
-
--- a script on the way: the lines that are left, and how many have been read
-pub record Reading : Type 0 where
-  pub left : List (List ℕ)
-  pub lines : ℕ
-
--- the lines read and those left are fewer than the bytes that a script can have, so a caller may count on from a line's number
-abbrev pub Countable : Reading → Type 0
-Countable r = r.lines + length r.left < 2 ^ 63

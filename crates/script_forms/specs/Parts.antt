@@ -1,19 +1,25 @@
 -- Lines, forms and numbers as the reader gives them: parts of the script's bytes, with their places.
-use Rattle.std.specs.Prelude.{◌≡◌, ℕ, ◌+◌, [], ◌∷◌, take, drop, Ok, Err, Result, Option, MatchOption}
+use Rattle.std.specs.Prelude.{◌≡◌, ℕ, ◌+◌, ◌^◌, ◌<◌, List, [], ◌∷◌, take, drop, Ok, Err, Result, Option, MatchOption}
+use Rattle.script_forms.specs.declared.reader.Reader.{Reader}
 use Rattle.script_forms.specs.declared.parts.Place.{Place}
 use Rattle.script_forms.specs.declared.parts.Part.{Part}
 use Rattle.script_forms.specs.declared.parts.Line.{Line}
 use Rattle.script_forms.specs.declared.parts.Form.{Form}
 use Rattle.script_forms.specs.declared.parts.Kind.{Kind}
 use Rattle.script_forms.specs.declared.parts.Kind.TheVariants.{Read, Write, Tick, Warm, Cold}
-use Rattle.script_forms.specs.Lines.{Reading, Countable}
+use Rattle.script_forms.specs.Lines.{lines_of}
 use Rattle.script_forms.specs.Grammar.{Asked, read, write, tick, warm, cold, worth}
 
--- a call of a reader gave the next line with its number, or nothing where none is left, and the reader stays there
-abbrev pub GivesLine : Reading → Option Line → Reading → Type 0
+-- the lines that a reader has yet to give
+abbrev pub left : Reader → List (List ℕ)
+left r = lines_of r.rest.now
+
+-- a call of a reader gave the next line with its number, or nothing where none is left, and the reader stays there; the number
+-- is below 2^63, so that a caller may count on from it
+abbrev pub GivesLine : Reader → Option Line → Reader → Type 0
 GivesLine r given s = MatchOption given
-    ((r.left ≡ []) × (s.left ≡ []) × (s.lines ≡ r.lines) × Countable s)
-    (λ l. (r.left ≡ l.bytes.now ∷ s.left) × (l.number ≡ r.lines + 1) × (s.lines ≡ r.lines + 1) × Countable s)
+    ((left r ≡ []) × (left s ≡ []) × (s.lines ≡ r.lines))
+    (λ l. (left r ≡ l.bytes.now ∷ left s) × (l.number ≡ r.lines + 1) × (s.lines ≡ r.lines + 1) × (l.number < 2 ^ 63))
 
 -- what a form of a kind asks, by the worth of its numbers
 abbrev pub asked : Kind → Asked

@@ -1,29 +1,19 @@
 // The reader of a script, which gives it line by line.
-ghost use Rattle.std.specs.Prelude.{◌≡◌, ◌≤◌, length};
+ghost use Rattle.std.specs.Prelude.{◌≡◌, ◌+◌, ◌^◌, ◌<◌, ◌≤◌, length};
 ghost use Rattle.std.specs.List.{before_first, after_first, position_or_len};
 ghost use Rattle.std.specs.Iterator.{item_count};
 ghost use Rattle.script_forms.specs.Lines.{lines_of, is_feed};
-ghost use Rattle.script_forms.specs.Parts.{GivesLine};
 
 use crate::parts::Line;
-use std::marker::Model;
 
-// What has yet to be read of a script, and how many lines have been.
+// What has yet to be read of a script, and how many lines have been: with the bytes that are left these are fewer than 2^63,
+// as the bytes of a script are.
+// Stays: a ghost field and no model, since of a model callers see its value alone, and no fact of every reader.
 #[derive(Drop)]
 pub struct Reader<'a> {
     rest: &'a [u8],
     lines: usize,
-}
-
-impl<'a> Model for Reader<'a> {
-    ghost use Rattle.std.specs.Prelude.{◌+◌, ◌^◌, ◌<◌, length};
-    ghost use Rattle.script_forms.specs.Lines.{Reading, lines_of};
-
-    ghost Value = { Reading };
-
-    ghost view = { λ r. record { left = lines_of r.rest.now; lines = r.lines } };
-
-    ghost invariant = { λ r. r.lines + length (lines_of r.rest.now) < 2 ^ 63 };
+    ghost countable: { lines + length rest.now < 2 ^ 63 },
 }
 
 // How many bytes a script's first line has, without its line feed.
@@ -47,10 +37,12 @@ fn split_line(script: &[u8]) -> (&[u8], &[u8])
 }
 
 impl<'a> Reader<'a> {
+    ghost use Rattle.script_forms.specs.Parts.{left};
+
     // A reader at the script's start.
-    #[tactic(auto, using(crate::proofs::FirstLine::lines_within))]
     pub fn new(script: &'a [u8]) -> Reader<'a>
-        ensures { result ≡ record { left = lines_of script.now; lines = 0 } }
+        ensures left { left result ≡ lines_of script.now }
+        ensures lines { result.lines ≡ 0 }
     {
         Reader {
             rest: script,
@@ -61,11 +53,13 @@ impl<'a> Reader<'a> {
 
 // The lines with their numbers; at the end nothing, and the reader stays there.
 impl<'a> Iterator for Reader<'a> {
+    ghost use Rattle.script_forms.specs.Parts.{left, GivesLine};
+
     type Item = Line<'a>;
 
     ghost next_gives = { GivesLine };
 
-    ghost remaining = { item_count (λ r. r.left) };
+    ghost remaining = { item_count left };
 
     #[tactic(auto, using(crate::proofs::FirstLine::first_line))]
     fn next(&mut self) -> Option<Line<'a>> {
