@@ -1,4 +1,4 @@
--- Proofs of the laws of the trait; nothing to believe. What every array owes of itself: an image has at most 256 blocks, and its words have 16 bits.
+-- Proofs that the trait's ghost members name; nothing to believe. What every array owes of itself: an image has at most 256 blocks, and its words have 16 bits.
 use Rattle.std.specs.Prelude.{◌≡◌, ℕ, ◌*◌, ◌/◌, ◌%◌, ◌^◌, ◌<◌, ◌≤◌, true, ◌&&◌, List, length, ◌==◌, nat_le, nat_lt, slice_index_or}
 use Rattle.std.proofs.Common.{arith}
 use Rattle.std.proofs.lemmas.Nat.{mod_below}
